@@ -1,0 +1,5 @@
+pub mod Places
+pub mod Filled
+pub mod Inserts
+pub mod Trims
+pub mod Searches

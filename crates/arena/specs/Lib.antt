@@ -1,0 +1,4 @@
+pub mod Kept
+pub mod Answers
+pub mod Found
+pub mod Reserve

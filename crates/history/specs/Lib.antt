@@ -1,0 +1,4 @@
+pub mod Slots
+pub mod Calls
+pub mod Roll
+pub mod Laws

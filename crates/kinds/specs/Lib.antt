@@ -1,0 +1,5 @@
+pub mod Places
+pub mod Kinds
+pub mod Invalidation
+pub mod Texts
+pub mod Outcome
