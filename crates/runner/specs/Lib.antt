@@ -1,0 +1,4 @@
+pub mod State
+pub mod Model
+pub mod Run
+pub mod Led
