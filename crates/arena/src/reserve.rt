@@ -1,7 +1,7 @@
 ghost use denote.Ref.{now};
 ghost use mathlib.Core.Path.{_≡_};
 ghost use Prim.Native.Nat.{_-_};
-ghost use lib.Dec.{leb, ltb};
+ghost use lib.Dec.{ltb};
 ghost use lib.ListN.{length};
 ghost use Rattle.kinds.specs.Outcome.{done, ofLimit, ofReallocation};
 ghost use Rattle.stack.specs.Limits.{limitAnswer, Bounded};
@@ -70,7 +70,7 @@ impl<P: Ptr, V: Copy, S: SetMaxCapacity<DirectSlot<P::Gen, V>>> DirectArena<P, V
         ensures answer { λ r. ⌜ ofLimit r ≡ limitAnswer (length (trimmed (length (S·NonZeroInxGenericStack .list (now (self .entry) .m)) - «max_capacity») (S·NonZeroInxGenericStack .list (now (self .entry) .m)))) «max_capacity» ⌝ }
         ensures step { λ r. ⌜ Step (Gen·PtrGen .alike) (entry (limit «max_capacity») (ofLimit r)) (S·NonZeroInxGenericStack .list (now (self .entry) .m)) (S·NonZeroInxGenericStack .list (now (self .exit) .m)) ⌝ }
         ensures limited { λ _. ⌜ Relimited (S·NonZeroInxGenericStack .list) (S·NonZeroInxGenericStack .config) relimited «max_capacity» (now (self .entry) .m) (now (self .exit) .m) ⌝ }
-        ensures bounded { λ _. ⌜ Bounded (S·NonZeroInxGenericStack .room) (S·NonZeroInxGenericStack .limit) (leb (length (S·NonZeroInxGenericStack .list (now (self .exit) .m))) «max_capacity») (length (S·NonZeroInxGenericStack .list (now (self .exit) .m))) «max_capacity» (S·NonZeroInxGenericStack .config (now (self .entry) .m)) (S·NonZeroInxGenericStack .config (now (self .exit) .m)) ⌝ }
+        ensures bounded { λ _. ⌜ Bounded (S·NonZeroInxGenericStack .room) (S·NonZeroInxGenericStack .limit) (length (S·NonZeroInxGenericStack .list (now (self .exit) .m))) «max_capacity» (S·NonZeroInxGenericStack .config (now (self .entry) .m)) (S·NonZeroInxGenericStack .config (now (self .exit) .m)) ⌝ }
         ensures stands { λ _. ⌜ Kept (S·NonZeroInxGenericStack .sound) (S·NonZeroInxGenericStack .list) (Inx·PtrInx .largest) (now (self .exit)) ⌝ }
     {
         let excess = self.m.len().saturating_sub(max_capacity);

@@ -1,5 +1,5 @@
 ghost use mathlib.Core.Path.{_≡_};
-ghost use mathlib.Core.List.{List, []};
+ghost use mathlib.Core.List.{[]};
 ghost use Prim.Native.Nat.{ℕ, min};
 ghost use Rattle.std.specs.declared.option.Option.the-variants.{Some};
 ghost use Rattle.limited.specs.Limited.{lower, limitedSound, limitedRegrown, limitedRelimited};
@@ -18,7 +18,7 @@ pub struct LimitedStack<S> {
 }
 
 impl<S> LimitedStack<S> {
-    /// The stack below, emptied, with its capacity for the limit.
+    /// The stack below, emptied; the limit is at first its capacity.
     pub fn new<U: Copy>(below: S) -> LimitedStack<S>
     where
         S: NonZeroInxGenericStack<U>,

@@ -16,8 +16,12 @@ abbrev pub AtMost : ℕ → Option ℕ → Type 0
 AtMost l None = ⊥
 AtMost l (Some m) = m ≤ l
 
--- by the test 'the slots are within the limit': a limit that is refused changes no setting; one that is taken
--- bounds capacity and maximum, and leaves room for the slots
-abbrev pub Bounded : {C : Type 0} → (C → ℕ) → (C → Option ℕ) → Bool → ℕ → ℕ → C → C → Type 0
-Bounded room limit true n l c d = (n ≤ room d) × (room d ≤ l) × AtMost l (limit d)
-Bounded room limit false n l c d = d ≡ c
+-- by the test 'the slots are within the limit'
+abbrev pub BoundedIf : {C : Type 0} → (C → ℕ) → (C → Option ℕ) → Bool → ℕ → ℕ → C → C → Type 0
+BoundedIf room limit true n l c d = (n ≤ room d) × (room d ≤ l) × AtMost l (limit d)
+BoundedIf room limit false n l c d = d ≡ c
+
+-- of n slots and a limit l: one that is refused changes no setting; one that is taken bounds capacity and maximum,
+-- and leaves room for the slots
+abbrev pub Bounded : {C : Type 0} → (C → ℕ) → (C → Option ℕ) → ℕ → ℕ → C → C → Type 0
+Bounded room limit n l c d = BoundedIf room limit (leb n l) n l c d

@@ -1,7 +1,6 @@
 ghost use denote.Ref.{now};
 ghost use mathlib.Core.Path.{_≡_};
 ghost use Prim.Native.Nat.{ℕ};
-ghost use lib.Dec.{leb};
 ghost use lib.ListN.{length};
 ghost use Rattle.kinds.specs.Outcome.{ofLimit};
 ghost use Rattle.stack.specs.Limits.{limitAnswer, Bounded};
@@ -19,6 +18,6 @@ pub trait SetMaxCapacity<U: Copy>: NonZeroInxGenericStack<U> {
         ensures answer { λ r. ⌜ ofLimit r ≡ limitAnswer (length (Self·NonZeroInxGenericStack .list (now (self .entry)))) limit ⌝ }
         ensures slots { λ _. ⌜ Self·NonZeroInxGenericStack .list (now (self .exit)) ≡ Self·NonZeroInxGenericStack .list (now (self .entry)) ⌝ }
         ensures limited { λ _. ⌜ relimited (now (self .entry)) limit (now (self .exit)) ⌝ }
-        ensures bounded { λ _. ⌜ Bounded (Self·NonZeroInxGenericStack .room) (Self·NonZeroInxGenericStack .limit) (leb (length (Self·NonZeroInxGenericStack .list (now (self .entry)))) limit) (length (Self·NonZeroInxGenericStack .list (now (self .entry)))) limit (Self·NonZeroInxGenericStack .config (now (self .entry))) (Self·NonZeroInxGenericStack .config (now (self .exit))) ⌝ }
+        ensures bounded { λ _. ⌜ Bounded (Self·NonZeroInxGenericStack .room) (Self·NonZeroInxGenericStack .limit) (length (Self·NonZeroInxGenericStack .list (now (self .entry)))) limit (Self·NonZeroInxGenericStack .config (now (self .entry))) (Self·NonZeroInxGenericStack .config (now (self .exit))) ⌝ }
         ensures stands { λ _. ⌜ Self·NonZeroInxGenericStack .sound (now (self .exit)) ⌝ };
 }
