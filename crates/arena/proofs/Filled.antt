@@ -1,14 +1,12 @@
 -- Free slots added one by one, up to a number.
-use mathlib.Core.Path.{_≡_, refl, sym, ap, _∙_}
-use mathlib.Core.Bool.{Bool, true, false, cond}
+use mathlib.Core.Path.{_≡_, sym, ap, _∙_}
 use mathlib.Core.List.{List, [], _∷_, _++_}
-use Prim.Native.Nat.{ℕ, _+_, _-_, _<_, _≤_, suc, zero}
+use Prim.Native.Nat.{ℕ, _+_, _-_, _<_, _≤_, suc}
 use native.Mathlib.Omega.{arith}
-use lib.Dec.{leb, ltb}
 use lib.ListN.{length, replicate}
-use Rattle.std.proofs.shelf.Lists.{append-assoc, append-nil, length-push, length-append, length-replicate}
+use Rattle.std.proofs.shelf.Lists.{append-assoc, length-push}
 use Rattle.kinds.specs.declared.slot.DirectSlot.{DirectSlot}
-use Rattle.kinds.specs.declared.slot.DirectSlot.the-variants.{Free, Allocated}
+use Rattle.kinds.specs.declared.slot.DirectSlot.the-variants.{Free}
 use Rattle.stack.specs.Slots.{pushedTo}
 use Rattle.arena.specs.Answers.{filled}
 

@@ -1,16 +1,16 @@
 -- An insertion that finds its slot vacant and within the capacity.
-use mathlib.Core.Path.{_≡_, refl, sym, ap, _∙_}
-use mathlib.Core.Bool.{Bool, true, false, cond, _&&_}
+use mathlib.Core.Path.{_≡_, refl, ap}
+use mathlib.Core.Bool.{Bool, true}
 use Prim.Native.Nat.{ℕ, _≤_}
 use lib.Dec.{leb}
 use Rattle.std.proofs.shelf.Tests.{le-leb}
 use Rattle.std.specs.declared.option.Option.{Option}
-use Rattle.std.specs.declared.option.Option.the-variants.{Some, None}
-use Rattle.kinds.specs.Outcome.{Outcome, done}
+use Rattle.std.specs.declared.option.Option.the-variants.{Some}
+use Rattle.kinds.specs.Outcome.{done}
 use Rattle.kinds.specs.Places.{orZero}
 use Rattle.kinds.specs.declared.slot.DirectSlot.the-variants.{Allocated}
-use Rattle.history.specs.Slots.{Slots, Ptr, to, at, isFree, write}
-use Rattle.history.specs.Calls.{insert, Entry, Step}
+use Rattle.history.specs.Slots.{Slots, to, at, isFree, write}
+use Rattle.history.specs.Calls.{insert, Step}
 use Rattle.arena.specs.Answers.{insertAnswer}
 
 module _ {G V : Type 0} (alike : G → G → Bool) (k n : ℕ) (g : G) (v : V) (s t : Slots G V) (low : 1 ≤ n) (free : isFree (at n s) ≡ true) where

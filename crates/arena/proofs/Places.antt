@@ -1,13 +1,13 @@
 -- One slot written: how the list, its length and its count change.
 use mathlib.Core.Path.{_≡_, refl, sym, ap, _∙_}
-use mathlib.Core.Bool.{Bool, true, false, cond}
+use mathlib.Core.Bool.{true}
 use mathlib.Core.List.{List, [], _∷_, _++_, append-nil}
-use Prim.Native.Nat.{ℕ, zero, suc, _+_, _-_, _<_, _≤_, max}
+use Prim.Native.Nat.{ℕ, zero, suc, _+_, _-_, _≤_, max}
 use native.Mathlib.Omega.{arith}
 use lib.Dec.{leb}
 use lib.ListN.{length, set, replicate}
 use Rattle.std.specs.Finite.{nth}
-use Rattle.kinds.specs.Places.{slotAt, slotPut}
+use Rattle.kinds.specs.Places.{slotPut}
 use Rattle.kinds.specs.declared.slot.DirectSlot.{DirectSlot}
 use Rattle.kinds.specs.declared.slot.DirectSlot.the-variants.{Free, Allocated}
 use Rattle.history.specs.Slots.{Slots, orFree, at, count, isFree, isHeld, place, write}

@@ -1,19 +1,17 @@
 -- The first and the last record, looked for slot by slot.
 use mathlib.Core.Path.{_≡_, refl, sym, ap, _∙_}
-use mathlib.Core.Bool.{Bool, true, false, not}
+use mathlib.Core.Bool.{true, not}
 use mathlib.Core.List.{List, [], _∷_, _++_, append-nil}
 use Prim.Native.Nat.{ℕ, zero, suc, _+_, _-_, _<_, _≤_}
 use native.Mathlib.Omega.{arith}
 use native.Mathlib.Numerals.{add-one}
-use lib.Dec.{leb, eqb}
+use lib.Dec.{eqb}
 use lib.ListN.{length, take, drop}
 use Rattle.std.specs.Finite.{nth}
 use Rattle.std.specs.Options.{isSome}
 use Rattle.std.proofs.shelf.Tests.{ne-eqb}
 use Rattle.std.proofs.shelf.Lists.{drop-all, take-all, length-take-le}
-use Rattle.std.specs.declared.option.Option.{Option}
 use Rattle.std.specs.declared.option.Option.the-variants.{Some, None}
-use Rattle.kinds.specs.Places.{slotAt}
 use Rattle.kinds.specs.declared.slot.DirectSlot.{DirectSlot}
 use Rattle.kinds.specs.declared.slot.DirectSlot.the-variants.{Free, Allocated}
 use Rattle.history.specs.Slots.{Slots, Held, orFree, at, count, held}

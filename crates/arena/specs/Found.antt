@@ -1,5 +1,4 @@
 -- A found record, as one that stands.
-use Prim.Native.Nat.{ℕ}
 use Rattle.std.specs.declared.option.Option.{Option}
 use Rattle.std.specs.declared.option.Option.the-variants.{Some, None}
 use Rattle.history.specs.Slots.{Held}

@@ -1,9 +1,9 @@
 ghost use denote.Ref.{now};
 ghost use mathlib.Core.Path.{_≡_};
-ghost use mathlib.Core.Bool.{true, not};
+ghost use mathlib.Core.Bool.{true};
 ghost use Prim.Native.Nat.{_≤_, min};
 ghost use Rattle.kinds.specs.Outcome.{ofInsertion};
-ghost use Rattle.kinds.specs.declared.slot.DirectSlot.the-variants.{Free, Allocated};
+ghost use Rattle.kinds.specs.declared.slot.DirectSlot.the-variants.{Allocated};
 ghost use Rattle.history.specs.Slots.{at, isFree, write};
 ghost use Rattle.history.specs.Calls.{insert as insertion, entry, Step};
 ghost use Rattle.arena.specs.Kept.{Kept};

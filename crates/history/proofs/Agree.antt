@@ -1,21 +1,18 @@
 -- The slots are those of the lines, in their order, and stay so under each call.
 use mathlib.Core.Path.{_≡_, refl, sym, ap, _∙_}
-use mathlib.Core.Bool.{Bool, true, false, cond, _&&_}
+use mathlib.Core.Bool.{Bool, true, false, _&&_}
 use mathlib.Core.List.{List, [], _∷_}
-use Prim.Native.Nat.{ℕ, zero, suc, _+_, _-_, _<_, _≤_}
+use Prim.Native.Nat.{ℕ, zero, suc, _+_, _-_, _<_}
 use native.Mathlib.Omega.{arith}
 use lib.Dec.{eqb, ltb, leb}
 use lib.ListN.{length}
 use Rattle.std.specs.Finite.{nth}
 use Rattle.std.proofs.shelf.Tests.{lt-ltb, le-ltb, eq-eqb, ne-eqb, and-parts}
-use Rattle.std.specs.declared.option.Option.{Option}
-use Rattle.std.specs.declared.option.Option.the-variants.{Some, None}
-use Rattle.kinds.specs.Places.{slotAt}
 use Rattle.kinds.specs.declared.slot.DirectSlot.{DirectSlot}
 use Rattle.kinds.specs.declared.slot.DirectSlot.the-variants.{Free, Allocated}
-use Rattle.history.specs.Slots.{Slots, Held, orFree, at, count, isFree, withValue, place, write, popFree, trimmed}
+use Rattle.history.specs.Slots.{Slots, orFree, at, isFree, withValue, place, write, popFree, trimmed}
 use Rattle.history.specs.Calls.{slotOf, Call, insert, edit, remove, clear, trim, reallocate, limit, Entry, after, asks, Step}
-use Rattle.history.specs.Roll.{Line, Roll, enter, valued, putIn, without, rolled}
+use Rattle.history.specs.Roll.{Line, Roll, enter, putIn, without, rolled}
 
 abbrev pub line : {G V : Type 0} → ℕ → ℕ → G → V → Line G V
 line i k g v = record { number = i; stand = record { slot = k; gen = g; value = v } }

@@ -7,12 +7,11 @@ use Prim.Native.Nat.{ℕ, zero, suc, _+_, _<_, _≤_}
 use native.Mathlib.Omega.{arith}
 use lib.ListN.{length}
 use Rattle.std.specs.Finite.{nth}
-use Rattle.kinds.specs.declared.slot.DirectSlot.{DirectSlot}
 use Rattle.kinds.specs.declared.slot.DirectSlot.the-variants.{Free, Allocated}
-use Rattle.history.specs.Slots.{Slots, Ptr, Held, ptr, orFree, at, count}
-use Rattle.history.specs.Calls.{insert, Entry, Step, Leads, made, next}
+use Rattle.history.specs.Slots.{Slots, Ptr, ptr, orFree, at, count}
+use Rattle.history.specs.Calls.{insert, Entry, Leads, made, next}
 use Rattle.history.specs.Roll.{Line, Roll, rolled, roll}
-use Rattle.history.specs.Laws.{In, Stands, Carried, Arrived, Keeps, Kept, Ordered, Lawful}
+use Rattle.history.specs.Laws.{In, Stands, Arrived, Keeps, Kept, Lawful}
 use Rattle.history.proofs.Agree.{Agrees, none, free, full, line, at-suc, step-agrees}
 use Rattle.history.proofs.Stems.{New, Stem, stems, grows, new-grows, passes-same}
 

@@ -1,12 +1,12 @@
 -- Each line after a call is a new one, or comes from a line before it.
-use mathlib.Core.Path.{_≡_, refl, sym, ap, _∙_}
+use mathlib.Core.Path.{_≡_, refl, sym, ap}
 use mathlib.Core.Bool.{Bool, true, false, cond}
 use mathlib.Core.List.{List, [], _∷_}
 use mathlib.Core.Logic.{_⊎_, inl, inr}
-use Prim.Native.Nat.{ℕ, suc, _<_, _≤_}
+use Prim.Native.Nat.{ℕ, suc, _≤_}
 use native.Mathlib.Omega.{arith}
 use lib.Dec.{eqb, ltb}
-use Rattle.history.specs.Slots.{Ptr, Held, ptr}
+use Rattle.history.specs.Slots.{Held, ptr}
 use Rattle.history.specs.Calls.{slotOf, Call, insert, edit, remove, clear, trim, reallocate, limit, Entry}
 use Rattle.history.specs.Roll.{Line, Roll, enter, valued, putIn, without, rolled}
 use Rattle.history.specs.Laws.{In, Becomes, Passes}

@@ -1,16 +1,15 @@
 -- What holds of an arena after every history that leads to it.
 use mathlib.Core.Path.{_≡_}
-use mathlib.Core.Bool.{Bool, true, false, cond}
+use mathlib.Core.Bool.{Bool, true, cond}
 use mathlib.Core.List.{List, [], _∷_, _++_}
 use mathlib.Core.Logic.{_⊎_}
 use Prim.Native.Nat.{ℕ, _<_}
 use lib.Dec.{eqb}
 use lib.ListN.{length}
-use Rattle.kinds.specs.declared.slot.DirectSlot.{DirectSlot}
-use Rattle.kinds.specs.declared.slot.DirectSlot.the-variants.{Free, Allocated}
-use Rattle.history.specs.Slots.{Slots, Ptr, Held, ptr, at}
+use Rattle.kinds.specs.declared.slot.DirectSlot.the-variants.{Allocated}
+use Rattle.history.specs.Slots.{Slots, Held, ptr, at}
 use Rattle.history.specs.Calls.{slotOf, Call, insert, edit, remove, clear, trim, reallocate, limit, Entry, Leads}
-use Rattle.history.specs.Roll.{Line, Roll, roll}
+use Rattle.history.specs.Roll.{Line, roll}
 
 abbrev pub In : {X : Type 0} → X → List X → Type 0
 In x [] = ⊥

@@ -1,6 +1,6 @@
 -- The roll of an arena's records: what each accepted call does to their lines. It is fed calls and whether they were
 -- accepted, and never looks at the slots.
-use mathlib.Core.Bool.{Bool, true, false, cond}
+use mathlib.Core.Bool.{cond}
 use mathlib.Core.List.{List, [], _∷_}
 use Prim.Native.Nat.{ℕ, suc}
 use lib.Dec.{eqb, ltb}

@@ -19,4 +19,4 @@ insertionText insertion.NotWithinCapacity = codes "a direct insertion index poin
 insertionText insertion.ExistingElementAtIndex = codes "a direct insertion index points to an internal slot where there is already an existing element"
 
 abbrev pub reductionText : List ℕ
-reductionText = codes "the max capacity limit could not be reduced below the slots in use"
+reductionText = codes "the max capacity limit could not be reduced, because the capacity would also need to be reduced to equal it, and the capacity could not be reduced in this case"

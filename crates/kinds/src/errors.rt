@@ -73,7 +73,7 @@ pub impl fmt::Display for MaxCapacityReductionError as MaxCapacityReductionError
     fn fmt<W: fmt::Write>(&self, f: &mut fmt::Formatter<W>) -> fmt::Result {
         write!(
             f,
-            "the max capacity limit could not be reduced below the slots in use"
+            "the max capacity limit could not be reduced, because the capacity would also need to be reduced to equal it, and the capacity could not be reduced in this case"
         )
     }
 }

@@ -11,7 +11,7 @@ use Rattle.answers.specs.Shown.{concernsRecord}
 use Rattle.answers.specs.declared.answer.Concerned.{Concerned}
 use Rattle.arena.specs.Answers.{matchIn, found, valueAnswer, editAnswer, insertAnswer}
 use Rattle.history.specs.Calls as history
-use Rattle.history.specs.Calls.{Entry, entry, went, asks, Step, Leads, next, pointer}
+use Rattle.history.specs.Calls.{Entry, went, asks, Leads, next, pointer}
 use Rattle.history.specs.Slots.{Slots, Ptr, Held, at, isFree, hasGen}
 use Rattle.kinds.specs.Kinds.{seasonAlike}
 use Rattle.kinds.specs.Outcome.{Outcome, done, refused}
@@ -24,8 +24,8 @@ use Rattle.lines.specs.declared.call.Call.the-variants.{Insert, Edit, Get, Remo
 use Rattle.lines.specs.declared.parse.Parsed.{Parsed}
 use Rattle.lines.specs.declared.parse.Parsed.the-variants.{Asks, Unknown, Unfit}
 use Rattle.runner.specs.State.{State, capacityOf, cite}
-use Rattle.runner.specs.Model.{shown, outcome, recorded, slotsBy, entries, stateAfter, afterLine, adds}
-use Rattle.runner.specs.Run.{afterAll, addsAll, stateBy, addsBy}
+use Rattle.runner.specs.Model.{shown, outcome, recorded, slotsBy, entries, afterLine, adds}
+use Rattle.runner.specs.Run.{afterAll, addsAll, stateBy}
 use Rattle.runner.specs.Led.{Led}
 
 -- an insertion that is accepted finds its slot vacant

@@ -1,6 +1,6 @@
 ghost use mathlib.Core.Path.{_≡_};
 ghost use lib.ListN.{length};
-ghost use Rattle.runner.specs.State.{Ready, stateOf, opened, tallyOf, cite};
+ghost use Rattle.runner.specs.State.{Ready, stateOf, opened, tallyOf};
 use answers::answer::Tally;
 use arena::DirectArena;
 use kinds::DirectSlot;

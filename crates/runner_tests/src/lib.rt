@@ -45,7 +45,7 @@ mod tests {
         )
     }
 
-    // A script of the names and then blank-filled lines, so long in all.
+    // The names and then empty lines, so long in all.
     fn padded(heap: Global, long: usize) -> Result<Vec<u8>, AllocError> {
         let mut input = NAMES.to_vec(heap)?;
         for _ in NAMES.len()..long {

@@ -1,19 +1,16 @@
 -- What `slotAt` and `slotPut` give of a list, and of the front of one.
 use mathlib.Core.Path.{_≡_, refl, sym, ap, _∙_}
-use mathlib.Core.Bool.{Bool, true, false, cond}
-use mathlib.Core.List.{List, [], _∷_, _++_}
-use Prim.Native.Nat.{ℕ, _+_, _-_, _<_, _≤_, suc, zero, min}
+use mathlib.Core.Bool.{true, false}
+use mathlib.Core.List.{List, [], _∷_}
+use Prim.Native.Nat.{ℕ, _+_, _-_, _<_, _≤_, suc, zero}
 use native.Mathlib.Omega.{arith}
-use borrow.Author.Needs.{needs}
-use lib.Dec.{leb, ltb}
+use lib.Dec.{ltb}
 use lib.ListN.{length, take, set, getD}
 use Rattle.std.specs.Finite.{nth}
-use Rattle.std.proofs.shelf.Tests.{cases-lt}
-use Rattle.std.proofs.shelf.Maps.{nth-read, nth-past, nth-getD}
-use Rattle.std.proofs.shelf.Lists.{length-take-le, getD-take, take-set-le, length-set, same-lists, getD-set-same, getD-set-other, length-push, take-more-set, set-past, take-take}
-use Rattle.std.specs.declared.option.Option.{Option}
+use Rattle.std.proofs.shelf.Maps.{nth-read, nth-past}
+use Rattle.std.proofs.shelf.Lists.{length-take-le, getD-take, take-more-set, set-past, take-take}
 use Rattle.std.specs.declared.option.Option.the-variants.{Some, None}
-use Rattle.kinds.specs.Outcome.{Outcome, done, refused}
+use Rattle.kinds.specs.Outcome.{refused}
 use Rattle.kinds.specs.Places.{slotAt, slotPut}
 use Rattle.stack.specs.Slots.{pushedTo, poppedFrom}
 

@@ -7,7 +7,7 @@ use borrow.Author.Tests.{ltb-false, ltb-true}
 use lib.Dec.{ltb}
 use lib.ListN.{length-take}
 use Rattle.std.specs.declared.option.Option.the-variants.{None}
-use Rattle.kinds.specs.Outcome.{Outcome, done, refused}
+use Rattle.kinds.specs.Outcome.{done, refused}
 use Rattle.stack.specs.Laws.{Laws}
 use Rattle.stack.specs.Slots.{counted}
 use Rattle.stack.specs.Slab.{slabList, slabConfig, slabSound, slabAnswer, slabRoom, slabRegrown}

@@ -4,7 +4,7 @@ use native.Mathlib.Omega.{arith}
 use Rattle.std.specs.Options.{isSome}
 use Rattle.std.specs.declared.option.Option.the-variants.{Some}
 use Rattle.arena.specs.Answers.{pointerOf}
-use Rattle.arena.proofs.Searches.{LastBelow, last-start, last-more, last-is, last-none, last-absent}
+use Rattle.arena.proofs.Searches.{last-start, last-more, last-is, last-none, last-absent}
 use Rattle.arena.proofs.arena.DirectArena.find_last_inx_ptr.Needs as need
 
 pub loop-n-holds : need.loop-n-holds

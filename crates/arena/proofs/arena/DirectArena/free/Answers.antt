@@ -1,6 +1,5 @@
 use mathlib.Core.Path.{ap, _∙_}
 use native.Mathlib.Omega.{arith}
-use Prim.Native.Nat.{_≤_}
 use lib.ListN.{length}
 use Rattle.history.specs.Slots.{count}
 use Rattle.kinds.specs.declared.slot.DirectSlot.the-variants.{Free}
