@@ -24,6 +24,7 @@ mod tests {
     use limited::limited::LimitedStackIsStack;
     use limited::limited::LimitedStackSets;
     use stack::FixedStack;
+    use stack::NonZeroInxGenericStack;
     use stack::SlabStack;
     use stack::fixed::FixedStackIsStack;
     use stack::slab::SlabStackIsStack;
@@ -65,23 +66,17 @@ mod tests {
     }
 
     #[test]
-    fn insertions_on_a_fixed_stack() -> Result<(), Fail> {
+    fn insertions_at_the_capacity() -> Result<(), Fail> {
         let mut lent = [DirectSlot::<SeasonGen, u32>::Free; 8];
         let mut a = DirectArena::<PtrOf<ShortInx, SeasonGen>, u32, _>::new(FixedStack::new(
             &mut lent,
         ));
         check(insertion(a.direct_insert_within_capacity(of(0, 1), 10)) == 1)?;
         check(insertion(a.direct_insert_within_capacity(of(9, 1), 10)) == 1)?;
-        check(insertion(a.direct_insert_within_capacity(of(1, 1), 10)) == 0)?;
-        check(insertion(a.direct_insert_within_capacity(of(7, 1), 70)) == 0)?;
-        check(insertion(a.direct_insert_within_capacity(of(7, 2), 71)) == 2)?;
-        check(a.slots() == 7)?;
         check(insertion(a.direct_insert_within_capacity(of(8, 1), 80)) == 0)?;
-        check(a.slots() == 8)?;
-        check(a.len() == 3)?;
+        check(insertion(a.direct_insert_within_capacity(of(8, 2), 81)) == 2)?;
         check(a.remove(of(8, 1)).is_success())?;
-        check(a.slots() == 8)?;
-        check(a.len() == 2)
+        check(a.slots() == 8 && a.is_empty())
     }
 
     #[test]
@@ -90,16 +85,10 @@ mod tests {
         let mut a = DirectArena::<PtrOf<ShortInx, SeasonGen>, u32, _>::new(FixedStack::new(
             &mut lent,
         ));
-        check(a.is_empty())?;
         check(insertion(a.direct_insert_within_capacity(of(2, 1), 20)) == 0)?;
         check(insertion(a.direct_insert_within_capacity(of(1, 1), 10)) == 0)?;
-        check(insertion(a.direct_insert_within_capacity(of(1, 1), 11)) == 2)?;
         check(insertion(a.direct_insert_within_capacity(of(3, 1), 30)) == 1)?;
-        check(a.len() == a.capacity())?;
-        check(matches!(a.max_capacity(), Some(2)))?;
-        check(a.clear().is_success())?;
-        check(a.slots() == 0)?;
-        check(a.is_empty())
+        check(a.len() == a.capacity())
     }
 
     #[test]
@@ -110,42 +99,31 @@ mod tests {
         ));
         check(insertion(a.direct_insert_within_capacity(of(2, 5), 50)) == 0)?;
         check(a.get(of(2, 4)).is_none())?;
-        check(a.get(of(1, 5)).is_none())?;
         check(a.get(of(3, 5)).is_none())?;
         check(matches!(a.get(of(2, 5)), Some(50)))?;
-        check(!a.contains(of(2, 4)))?;
         check(a.contains(of(2, 5)))?;
-        check(a.invalidate(of(2, 4)).is_invalid())?;
-        check(a.invalidate(of(2, 5)).is_success())?;
-        check(a.get_inx(short(1)).is_none())?;
-        check(a.get_inx(short(0)).is_none())?;
-        check(matches!(a.get_inx(short(2)), Some((SeasonGen { season: 5 }, 50))))
+        check(matches!(a.get_inx(short(2)), Some((SeasonGen { season: 5 }, 50))))?;
+        check(a.invalidate(of(2, 4)).is_invalid())
     }
 
     #[test]
-    fn editing_and_removing_one_record() -> Result<(), Fail> {
+    fn changing_records_by_index() -> Result<(), Fail> {
         let mut lent = [DirectSlot::<SeasonGen, u32>::Free; 4];
         let mut a = DirectArena::<PtrOf<ShortInx, SeasonGen>, u32, _>::new(FixedStack::new(
             &mut lent,
         ));
-        check(insertion(a.direct_insert_within_capacity(of(2, 5), 50)) == 0)?;
         check(insertion(a.direct_insert_within_capacity(of(3, 6), 60)) == 0)?;
-        check(a.edit(of(2, 4), 51).is_none())?;
-        check(matches!(a.edit(of(2, 5), 52), Some(52)))?;
+        check(a.edit(of(3, 5), 9).is_none())?;
         check(matches!(
             a.edit_inx(short(3), 61),
             Some((SeasonGen { season: 6 }, 61))
         ))?;
         check(a.edit_inx(short(4), 9).is_none())?;
-        check(a.remove(of(2, 4)).is_invalid())?;
-        check(matches!(a.remove(of(2, 5)), InvalidationResult::Success(52)))?;
-        check(a.remove(of(2, 5)).is_invalid())?;
         check(matches!(
             a.remove_inx(short(3)),
             InvalidationResult::Success((SeasonGen { season: 6 }, 61))
         ))?;
-        check(a.remove_inx(short(3)).is_invalid())?;
-        check(a.is_empty())
+        check(a.remove_inx(short(3)).is_invalid())
     }
 
     #[test]
@@ -155,11 +133,8 @@ mod tests {
             &mut lent,
         ));
         check(a.find_first_inx_ptr().is_none())?;
-        check(a.find_last_inx_ptr().is_none())?;
-        check(insertion(a.direct_insert_within_capacity(of(7, 1), 70)) == 0)?;
         check(insertion(a.direct_insert_within_capacity(of(5, 3), 50)) == 0)?;
         check(insertion(a.direct_insert_within_capacity(of(3, 2), 30)) == 0)?;
-        check(a.remove(of(7, 1)).is_success())?;
         check(matches!(
             a.find_first_inx_ptr(),
             Some(PtrOf {
@@ -186,47 +161,34 @@ mod tests {
         check(insertion(a.direct_insert_within_capacity(of(3, 1), 30)) == 0)?;
         check(a.pop_free_end_slots(5) == 0)?;
         check(a.remove(of(3, 1)).is_success())?;
-        check(a.pop_free_end_slots(0) == 0)?;
-        check(a.slots() == 3)?;
         check(a.pop_free_end_slots(5) == 2)?;
-        check(a.slots() == 1)?;
-        check(a.contains(of(1, 1)))
+        check(a.slots() == 1)
     }
 
     #[test]
     fn a_slab_grows_up_to_what_is_lent() -> Result<(), Fail> {
         let mut lent = [DirectSlot::<SeasonGen, u32>::Free; 8];
-        let slab = SlabStack::with_min_capacity(&mut lent, 3);
+        let mut slab = SlabStack::with_min_capacity(&mut lent, 3);
         check(growth(slab.test(8)) == 0)?;
         check(growth(slab.test(9)) == 7)?;
-        let mut a = DirectArena::<PtrOf<ShortInx, SeasonGen>, u32, _>::new(slab);
-        check(a.capacity() == 3)?;
-        check(a.max_capacity().is_none())?;
-        check(growth(a.reallocate_min_capacity(4)) == 0)?;
-        check(a.capacity() == 6)?;
-        check(growth(a.reallocate_min_capacity(9)) == 7)?;
-        check(insertion(a.direct_insert_within_capacity(of(2, 1), 20)) == 0)?;
-        check(growth(a.reallocate_min_capacity(0)) == 0)?;
-        check(a.capacity() == 2)
+        check(slab.capacity() == 3)?;
+        check(growth(slab.reallocate_min_capacity(4)) == 0)?;
+        check(slab.capacity() == 6)?;
+        check(growth(slab.reallocate_min_capacity(9)) == 7)?;
+        check(growth(slab.reallocate_min_capacity(0)) == 0)?;
+        check(slab.capacity() == 0)
     }
 
     #[test]
-    fn a_limit_over_a_slab() -> Result<(), Fail> {
+    fn a_refused_limit_still_trims() -> Result<(), Fail> {
         let mut lent = [DirectSlot::<SeasonGen, u32>::Free; 8];
         let below = LimitedStack::new(SlabStack::with_min_capacity(&mut lent, 4));
         let mut a = DirectArena::<PtrOf<ShortInx, SeasonGen>, u32, _>::new(below);
-        check(growth(a.reallocate_min_capacity(5)) == 6)?;
-        check(a.set_max_capacity(6).is_ok())?;
-        check(growth(a.reallocate_min_capacity(5)) == 0)?;
-        check(a.capacity() == 6)?;
         check(insertion(a.direct_insert_within_capacity(of(2, 1), 20)) == 0)?;
         check(insertion(a.direct_insert_within_capacity(of(4, 1), 40)) == 0)?;
         check(a.remove(of(4, 1)).is_success())?;
         check(a.set_max_capacity(1).is_err())?;
-        check(a.slots() == 2)?;
-        check(a.set_max_capacity(3).is_ok())?;
-        check(a.capacity() == 3)?;
-        check(matches!(a.max_capacity(), Some(3)))
+        check(a.slots() == 2)
     }
 
     #[test]
@@ -237,15 +199,10 @@ mod tests {
             u32,
             _,
         >::new(LimitedStack::new(FixedStack::new(&mut lent)));
-        check(a.capacity() == 8)?;
         check(insertion(a.direct_insert_within_capacity(on(0, 8), 80)) == 0)?;
         check(matches!(a.get(on(0, 8)), Some(80)))?;
-        check(insertion(a.direct_insert_within_capacity(on(39, 200), 1)) == 1)?;
-        check(insertion(a.direct_insert_within_capacity(on(40, 1), 1)) == 1)?;
         check(insertion(a.direct_insert_within_capacity(on(0, 0), 1)) == 1)?;
-        check(insertion(a.direct_insert_within_capacity(on(0, 201), 1)) == 1)?;
         check(a.get(on(40, 1)).is_none())?;
-        check(a.get(on(0, 201)).is_none())?;
         check(growth(a.reallocate_min_capacity(8_000)) == 6)?;
         check(growth(a.reallocate_min_capacity(8_001)) == 7)
     }

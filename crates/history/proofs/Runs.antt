@@ -11,7 +11,7 @@ use Rattle.kinds.specs.declared.slot.DirectSlot.the-variants.{Free, Allocated}
 use Rattle.history.specs.Slots.{Slots, Ptr, ptr, orFree, at, count}
 use Rattle.history.specs.Calls.{insert, Entry, Leads, made, next}
 use Rattle.history.specs.Roll.{Line, Roll, rolled, roll}
-use Rattle.history.specs.Laws.{In, Stands, Arrived, Keeps, Kept, Lawful}
+use Rattle.history.specs.Laws.{In, Stands, Arrived, Keeps, Carries, Lawful}
 use Rattle.history.proofs.Agree.{Agrees, none, free, full, line, at-suc, step-agrees}
 use Rattle.history.proofs.Stems.{New, Stem, stems, grows, new-grows, passes-same}
 
@@ -147,13 +147,13 @@ module _ {G V : Type 0} (alike : G → G → Bool) where
   grown [] h = omega arith
   grown (e ∷ later) h = omega (arith, grown later h, grows e (roll (later ++ h)))
 
-  kept : (later h : List (Entry G V)) (s : Slots G V) → Leads alike h s → (t : Slots G V) → Leads alike (later ++ h) t → Kept later h
+  kept : (later h : List (Entry G V)) (s : Slots G V) → Leads alike h s → (t : Slots G V) → Leads alike (later ++ h) t → Carries later h
   kept [] h s k t a l m i j e =
       let q = sound h s k .one l m i j e in
       record { carried = ap (λ (z : Line G V). z .stand) (sym q); slot = ap (λ (z : Line G V). z .stand .slot) (sym q); gen = ap (λ (z : Line G V). z .stand .gen) (sym q) }
   kept (e ∷ later) h s k t (next {s = u} a x) l m i j q = go (kept later h s k u a) (stems e (roll (later ++ h)) m j)
     where
-      go : Kept later h → New e (roll (later ++ h)) m ⊎ Stem e (roll (later ++ h) .lines) m → Keeps (e ∷ later) l m
+      go : Carries later h → New e (roll (later ++ h)) m ⊎ Stem e (roll (later ++ h) .lines) m → Keeps (e ∷ later) l m
       go rest (inl y) = absurd (omega (arith, sound h s k .below l i, grown later h, number-of m _ (y .is), q))
       go rest (inr y) =
           let b = rest l (y .line) i (y .was) (q ∙ sym (y .number)) in

@@ -59,8 +59,8 @@ pub record Keeps {G V : Type 0} (later : List (Entry G V)) (l m : Line G V) : Ty
   pub slot : m .stand .slot ≡ l .stand .slot
   pub gen : m .stand .gen ≡ l .stand .gen
 
-abbrev pub Kept : {G V : Type 0} → (later h : List (Entry G V)) → Type 0
-Kept {G} {V} later h = (l m : Line G V) → In l (roll h .lines) → In m (roll (later ++ h) .lines) → l .number ≡ m .number → Keeps later l m
+abbrev pub Carries : {G V : Type 0} → (later h : List (Entry G V)) → Type 0
+Carries {G} {V} later h = (l m : Line G V) → In l (roll h .lines) → In m (roll (later ++ h) .lines) → l .number ≡ m .number → Keeps later l m
 
 -- Any two records keep the order of slots of every earlier moment at which both stood.
 abbrev pub Ordered : {G V : Type 0} → (later h : List (Entry G V)) → Type 0
@@ -71,5 +71,5 @@ Ordered {G} {V} later h = (l l′ m m′ : Line G V) → In l (roll h .lines) �
 pub record Lawful {G V : Type 0} (alike : G → G → Bool) (s : Slots G V) (len : ℕ) : Type 0 where
   pub stands : (h : List (Entry G V)) → Leads alike h s → Stands (roll h .lines) s len
   pub arrived : (h : List (Entry G V)) → Leads alike h s → (l : Line G V) → In l (roll h .lines) → Arrived h l
-  pub kept : (later h : List (Entry G V)) → Leads alike (later ++ h) s → Kept later h
+  pub kept : (later h : List (Entry G V)) → Leads alike (later ++ h) s → Carries later h
   pub ordered : (later h : List (Entry G V)) → Leads alike (later ++ h) s → Ordered later h
