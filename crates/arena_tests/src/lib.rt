@@ -22,7 +22,6 @@ mod tests {
     use kinds::pointer::PtrOfIsPtr;
     use limited::LimitedStack;
     use limited::limited::LimitedStackIsStack;
-    use limited::limited::LimitedStackSets;
     use stack::FixedStack;
     use stack::NonZeroInxGenericStack;
     use stack::SlabStack;
@@ -92,21 +91,6 @@ mod tests {
     }
 
     #[test]
-    fn reading_one_record() -> Result<(), Fail> {
-        let mut lent = [DirectSlot::<SeasonGen, u32>::Free; 4];
-        let mut a = DirectArena::<PtrOf<ShortInx, SeasonGen>, u32, _>::new(FixedStack::new(
-            &mut lent,
-        ));
-        check(insertion(a.direct_insert_within_capacity(of(2, 5), 50)) == 0)?;
-        check(a.get(of(2, 4)).is_none())?;
-        check(a.get(of(3, 5)).is_none())?;
-        check(matches!(a.get(of(2, 5)), Some(50)))?;
-        check(a.contains(of(2, 5)))?;
-        check(matches!(a.get_inx(short(2)), Some((SeasonGen { season: 5 }, 50))))?;
-        check(a.invalidate(of(2, 4)).is_invalid())
-    }
-
-    #[test]
     fn changing_records_by_index() -> Result<(), Fail> {
         let mut lent = [DirectSlot::<SeasonGen, u32>::Free; 4];
         let mut a = DirectArena::<PtrOf<ShortInx, SeasonGen>, u32, _>::new(FixedStack::new(
@@ -152,20 +136,6 @@ mod tests {
     }
 
     #[test]
-    fn trimming_free_slots_at_the_end() -> Result<(), Fail> {
-        let mut lent = [DirectSlot::<SeasonGen, u32>::Free; 8];
-        let mut a = DirectArena::<PtrOf<ShortInx, SeasonGen>, u32, _>::new(FixedStack::new(
-            &mut lent,
-        ));
-        check(insertion(a.direct_insert_within_capacity(of(1, 1), 10)) == 0)?;
-        check(insertion(a.direct_insert_within_capacity(of(3, 1), 30)) == 0)?;
-        check(a.pop_free_end_slots(5) == 0)?;
-        check(a.remove(of(3, 1)).is_success())?;
-        check(a.pop_free_end_slots(5) == 2)?;
-        check(a.slots() == 1)
-    }
-
-    #[test]
     fn a_slab_grows_up_to_what_is_lent() -> Result<(), Fail> {
         let mut lent = [DirectSlot::<SeasonGen, u32>::Free; 8];
         let mut slab = SlabStack::with_min_capacity(&mut lent, 3);
@@ -177,18 +147,6 @@ mod tests {
         check(growth(slab.reallocate_min_capacity(9)) == 7)?;
         check(growth(slab.reallocate_min_capacity(0)) == 0)?;
         check(slab.capacity() == 0)
-    }
-
-    #[test]
-    fn a_refused_limit_still_trims() -> Result<(), Fail> {
-        let mut lent = [DirectSlot::<SeasonGen, u32>::Free; 8];
-        let below = LimitedStack::new(SlabStack::with_min_capacity(&mut lent, 4));
-        let mut a = DirectArena::<PtrOf<ShortInx, SeasonGen>, u32, _>::new(below);
-        check(insertion(a.direct_insert_within_capacity(of(2, 1), 20)) == 0)?;
-        check(insertion(a.direct_insert_within_capacity(of(4, 1), 40)) == 0)?;
-        check(a.remove(of(4, 1)).is_success())?;
-        check(a.set_max_capacity(1).is_err())?;
-        check(a.slots() == 2)
     }
 
     #[test]
