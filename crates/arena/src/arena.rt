@@ -22,10 +22,10 @@ pub struct DirectArena<P: Ptr, V: Copy, S: NonZeroInxGenericStack<DirectSlot<P::
 impl<P: Ptr, V: Copy, S: NonZeroInxGenericStack<DirectSlot<P::Gen, V>>> DirectArena<P, V, S> {
     /// An empty arena: whatever stood in the stack is cleared.
     pub fn new(stack: S) -> Self
-        requires { sound stack }
-        ensures slots { list result.m ≡ [] }
-        ensures kept { config result.m ≡ config stack }
-        ensures stands { Kept sound list Inx-as-PtrInx.largest result }
+        requires { S.sound stack }
+        ensures slots { S.list result.m ≡ [] }
+        ensures kept { S.config result.m ≡ S.config stack }
+        ensures stands { Kept S.sound S.list P.Inx.PtrInx.largest result }
     {
         let mut m = stack;
         m.clear();
@@ -38,10 +38,10 @@ impl<P: Ptr, V: Copy, S: NonZeroInxGenericStack<DirectSlot<P::Gen, V>>> DirectAr
 
     /// Gives the stack back, with the arena's slots in it.
     pub fn into_stack(self) -> S
-        requires { Kept sound list Inx-as-PtrInx.largest self }
-        ensures slots { list result ≡ list self.m }
-        ensures kept { config result ≡ config self.m }
-        ensures stands { sound result }
+        requires { Kept S.sound S.list P.Inx.PtrInx.largest self }
+        ensures slots { S.list result ≡ S.list self.m }
+        ensures kept { S.config result ≡ S.config self.m }
+        ensures stands { S.sound result }
     {
         let DirectArena { m, len: _, of: _ } = self;
         m
@@ -49,32 +49,32 @@ impl<P: Ptr, V: Copy, S: NonZeroInxGenericStack<DirectSlot<P::Gen, V>>> DirectAr
 
     /// How many records stand; and with it what holds of them after every history that led here.
     pub fn len(&self) -> usize
-        requires { Kept sound list Inx-as-PtrInx.largest self.now }
-        ensures number { result ≡ count (list self.now.m) }
-        ensures lawful { Lawful P.Gen.PtrGen.alike (list self.now.m) result }
+        requires { Kept S.sound S.list P.Inx.PtrInx.largest self.now }
+        ensures number { result ≡ count (S.list self.now.m) }
+        ensures lawful { Lawful P.Gen.PtrGen.alike (S.list self.now.m) result }
     {
         self.len
     }
 
     pub fn is_empty(&self) -> bool
-        requires { Kept sound list Inx-as-PtrInx.largest self.now }
-        ensures { result ≡ (count (list self.now.m) == 0) }
+        requires { Kept S.sound S.list P.Inx.PtrInx.largest self.now }
+        ensures { result ≡ (count (S.list self.now.m) == 0) }
     {
         self.len == 0
     }
 
     /// How many slots there are, free ones included.
     pub fn slots(&self) -> usize
-        requires { Kept sound list Inx-as-PtrInx.largest self.now }
-        ensures { result ≡ length (list self.now.m) }
+        requires { Kept S.sound S.list P.Inx.PtrInx.largest self.now }
+        ensures { result ≡ length (S.list self.now.m) }
     {
         self.m.len()
     }
 
     /// The smaller of the stack's capacity and the largest index.
     pub fn capacity(&self) -> usize
-        requires { Kept sound list Inx-as-PtrInx.largest self.now }
-        ensures { result ≡ min (room (config self.now.m)) Inx-as-PtrInx.largest }
+        requires { Kept S.sound S.list P.Inx.PtrInx.largest self.now }
+        ensures { result ≡ min (S.room (S.config self.now.m)) P.Inx.PtrInx.largest }
     {
         let room = self.m.capacity();
         let most = P::Inx::max_index();
@@ -82,19 +82,19 @@ impl<P: Ptr, V: Copy, S: NonZeroInxGenericStack<DirectSlot<P::Gen, V>>> DirectAr
     }
 
     pub fn max_capacity(&self) -> Option<usize>
-        requires { Kept sound list P.Inx.PtrInx.largest self.now }
-        ensures { result ≡ limit (config self.now.m) }
+        requires { Kept S.sound S.list P.Inx.PtrInx.largest self.now }
+        ensures { result ≡ S.limit (S.config self.now.m) }
     {
         self.m.max_capacity()
     }
 
     /// Takes out every record, and leaves no slot.
     pub fn clear(&mut self) -> InvalidationOption<()>
-        requires { Kept sound list P.Inx.PtrInx.largest self.old }
+        requires { Kept S.sound S.list P.Inx.PtrInx.largest self.old }
         ensures answer { of_clearing result ≡ done tt }
-        ensures step { Step P.Gen.PtrGen.alike (entry clear (of_clearing result)) (list self.old.m) (list self.new.m) }
-        ensures kept { config self.new.m ≡ config self.old.m }
-        ensures stands { Kept sound list P.Inx.PtrInx.largest self.new }
+        ensures step { Step P.Gen.PtrGen.alike (entry clear (of_clearing result)) (S.list self.old.m) (S.list self.new.m) }
+        ensures kept { S.config self.new.m ≡ S.config self.old.m }
+        ensures stands { Kept S.sound S.list P.Inx.PtrInx.largest self.new }
     {
         self.len = 0;
         self.m.clear();

@@ -1,7 +1,7 @@
 ghost use Rattle.std.specs.Prelude.{◌≡◌};
 ghost use Rattle.kinds.specs.Places.{or_zero};
 ghost use Rattle.outcome.specs.Outcome.{of_found, of_invalidation};
-ghost use Rattle.history.specs.Calls.{index as byIndex, pointer as byPointer, edit as editing, remove as removal, entry, Step};
+ghost use Rattle.history.specs.Calls.{index as by_index, pointer as by_pointer, edit as editing, remove as removal, entry, Step};
 ghost use Rattle.arena.specs.Kept.{Kept};
 ghost use Rattle.slots.specs.Records.{named, found};
 ghost use Rattle.arena.specs.Answers.{cited, value_answer, pair_answer, edit_answer, edit_pair_answer};
@@ -15,11 +15,11 @@ use stack::NonZeroInxGenericStack;
 impl<P: Ptr, V: Copy, S: NonZeroInxGenericStack<DirectSlot<P::Gen, V>>> DirectArena<P, V, S> {
     /// Puts a new value into the record that `p` cites, and answers it.
     pub fn edit(&mut self, p: P, v: V) -> Option<V>
-        requires { Kept sound list Inx-as-PtrInx.largest self.old }
-        ensures answer { of_found result ≡ edit_answer v (found P.Gen.PtrGen.alike (cited Inx-as-PtrInx.number index mark p) (list self.old.m)) }
-        ensures step { Step P.Gen.PtrGen.alike (entry (editing (byPointer (cited Inx-as-PtrInx.number index mark p)) v) (of_found result)) (list self.old.m) (list self.new.m) }
-        ensures kept { config self.new.m ≡ config self.old.m }
-        ensures stands { Kept sound list Inx-as-PtrInx.largest self.new }
+        requires { Kept S.sound S.list P.Inx.PtrInx.largest self.old }
+        ensures answer { of_found result ≡ edit_answer v (found P.Gen.PtrGen.alike (cited P.Inx.PtrInx.number P.index P.mark p) (S.list self.old.m)) }
+        ensures step { Step P.Gen.PtrGen.alike (entry (editing (by_pointer (cited P.Inx.PtrInx.number P.index P.mark p)) v) (of_found result)) (S.list self.old.m) (S.list self.new.m) }
+        ensures kept { S.config self.new.m ≡ S.config self.old.m }
+        ensures stands { Kept S.sound S.list P.Inx.PtrInx.largest self.new }
     {
         match self.find(p) {
             Some(found) => {
@@ -36,11 +36,11 @@ impl<P: Ptr, V: Copy, S: NonZeroInxGenericStack<DirectSlot<P::Gen, V>>> DirectAr
 
     /// The same by index: the generation is not asked for, and comes with the value.
     pub fn edit_inx(&mut self, inx: P::Inx, v: V) -> Option<(P::Gen, V)>
-        requires { Kept sound list P.Inx.PtrInx.largest self.old }
-        ensures answer { of_found result ≡ edit_pair_answer v (named (or_zero (P.Inx.PtrInx.number inx)) (list self.old.m)) }
-        ensures step { Step P.Gen.PtrGen.alike (entry (editing (byIndex (or_zero (P.Inx.PtrInx.number inx))) v) (of_found result)) (list self.old.m) (list self.new.m) }
-        ensures kept { config self.new.m ≡ config self.old.m }
-        ensures stands { Kept sound list P.Inx.PtrInx.largest self.new }
+        requires { Kept S.sound S.list P.Inx.PtrInx.largest self.old }
+        ensures answer { of_found result ≡ edit_pair_answer v (named (or_zero (P.Inx.PtrInx.number inx)) (S.list self.old.m)) }
+        ensures step { Step P.Gen.PtrGen.alike (entry (editing (by_index (or_zero (P.Inx.PtrInx.number inx))) v) (of_found result)) (S.list self.old.m) (S.list self.new.m) }
+        ensures kept { S.config self.new.m ≡ S.config self.old.m }
+        ensures stands { Kept S.sound S.list P.Inx.PtrInx.largest self.new }
     {
         match self.find_inx(inx) {
             Some(found) => {
@@ -57,11 +57,11 @@ impl<P: Ptr, V: Copy, S: NonZeroInxGenericStack<DirectSlot<P::Gen, V>>> DirectAr
 
     /// Takes out the record that `p` cites, and answers its value. Its slot stays, free.
     pub fn remove(&mut self, p: P) -> InvalidationResult<V>
-        requires { Kept sound list P.Inx.PtrInx.largest self.old }
-        ensures answer { of_invalidation result ≡ value_answer (found P.Gen.PtrGen.alike (cited P.Inx.PtrInx.number index mark p) (list self.old.m)) }
-        ensures step { Step P.Gen.PtrGen.alike (entry (removal (byPointer (cited P.Inx.PtrInx.number index mark p))) (of_invalidation result)) (list self.old.m) (list self.new.m) }
-        ensures kept { config self.new.m ≡ config self.old.m }
-        ensures stands { Kept sound list P.Inx.PtrInx.largest self.new }
+        requires { Kept S.sound S.list P.Inx.PtrInx.largest self.old }
+        ensures answer { of_invalidation result ≡ value_answer (found P.Gen.PtrGen.alike (cited P.Inx.PtrInx.number P.index P.mark p) (S.list self.old.m)) }
+        ensures step { Step P.Gen.PtrGen.alike (entry (removal (by_pointer (cited P.Inx.PtrInx.number P.index P.mark p))) (of_invalidation result)) (S.list self.old.m) (S.list self.new.m) }
+        ensures kept { S.config self.new.m ≡ S.config self.old.m }
+        ensures stands { Kept S.sound S.list P.Inx.PtrInx.largest self.new }
     {
         match self.find(p) {
             Some(found) => {
@@ -75,11 +75,11 @@ impl<P: Ptr, V: Copy, S: NonZeroInxGenericStack<DirectSlot<P::Gen, V>>> DirectAr
 
     /// The same by index: the generation is not asked for, and comes with the value.
     pub fn remove_inx(&mut self, inx: P::Inx) -> InvalidationResult<(P::Gen, V)>
-        requires { Kept sound list P.Inx.PtrInx.largest self.old }
-        ensures answer { of_invalidation result ≡ pair_answer (named (or_zero (P.Inx.PtrInx.number inx)) (list self.old.m)) }
-        ensures step { Step P.Gen.PtrGen.alike (entry (removal (byIndex (or_zero (P.Inx.PtrInx.number inx)))) (of_invalidation result)) (list self.old.m) (list self.new.m) }
-        ensures kept { config self.new.m ≡ config self.old.m }
-        ensures stands { Kept sound list P.Inx.PtrInx.largest self.new }
+        requires { Kept S.sound S.list P.Inx.PtrInx.largest self.old }
+        ensures answer { of_invalidation result ≡ pair_answer (named (or_zero (P.Inx.PtrInx.number inx)) (S.list self.old.m)) }
+        ensures step { Step P.Gen.PtrGen.alike (entry (removal (by_index (or_zero (P.Inx.PtrInx.number inx)))) (of_invalidation result)) (S.list self.old.m) (S.list self.new.m) }
+        ensures kept { S.config self.new.m ≡ S.config self.old.m }
+        ensures stands { Kept S.sound S.list P.Inx.PtrInx.largest self.new }
     {
         match self.find_inx(inx) {
             Some(found) => {

@@ -12,8 +12,8 @@ use stack::NonZeroInxGenericStack;
 // The pointer of a slot's number and a generation.
 fn point<P: Ptr>(n: usize, generation: P::Gen) -> P
     requires low { 1 ≤ n }
-    requires high { n ≤ Inx-as-PtrInx.largest }
-    ensures { result ≡ made (Inx-as-PtrInx.indexed n) generation }
+    requires high { n ≤ P.Inx.PtrInx.largest }
+    ensures { result ≡ P.made (P.Inx.PtrInx.indexed n) generation }
 {
     match P::Inx::try_from_usize(n) {
         Some(inx) => P::from_raw(inx, generation),
@@ -24,9 +24,9 @@ fn point<P: Ptr>(n: usize, generation: P::Gen) -> P
 impl<P: Ptr, V: Copy, S: NonZeroInxGenericStack<DirectSlot<P::Gen, V>>> DirectArena<P, V, S> {
     /// The pointer of the record in the lowest slot; none where no record stands.
     pub fn find_first_inx_ptr(&self) -> Option<P>
-        requires { Kept sound list Inx-as-PtrInx.largest self.now }
-        ensures pointer { result ≡ pointer_of (λ n γ. made (Inx-as-PtrInx.indexed n) γ) (first_of (held 1 (list self.now.m))) }
-        ensures absent { is_some result ≡ not (count (list self.now.m) == 0) }
+        requires { Kept S.sound S.list P.Inx.PtrInx.largest self.now }
+        ensures pointer { result ≡ pointer_of (λ n γ. P.made (P.Inx.PtrInx.indexed n) γ) (first_of (held 1 (S.list self.now.m))) }
+        ensures absent { is_some result ≡ not (count (S.list self.now.m) == 0) }
     {
         match first_record(&self.m) {
             Some(found) => Some(point(found.slot, found.generation)),
@@ -36,9 +36,9 @@ impl<P: Ptr, V: Copy, S: NonZeroInxGenericStack<DirectSlot<P::Gen, V>>> DirectAr
 
     /// The pointer of the record in the highest slot; none where no record stands.
     pub fn find_last_inx_ptr(&self) -> Option<P>
-        requires { Kept sound list Inx-as-PtrInx.largest self.now }
-        ensures pointer { result ≡ pointer_of (λ n γ. made (Inx-as-PtrInx.indexed n) γ) (last_of (held 1 (list self.now.m))) }
-        ensures absent { is_some result ≡ not (count (list self.now.m) == 0) }
+        requires { Kept S.sound S.list P.Inx.PtrInx.largest self.now }
+        ensures pointer { result ≡ pointer_of (λ n γ. P.made (P.Inx.PtrInx.indexed n) γ) (last_of (held 1 (S.list self.now.m))) }
+        ensures absent { is_some result ≡ not (count (S.list self.now.m) == 0) }
     {
         match last_record(&self.m) {
             Some(found) => Some(point(found.slot, found.generation)),

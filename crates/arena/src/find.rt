@@ -14,23 +14,23 @@ use stack::NonZeroInxGenericStack;
 
 impl<P: Ptr, V: Copy, S: NonZeroInxGenericStack<DirectSlot<P::Gen, V>>> DirectArena<P, V, S> {
     pub(crate) fn find(&self, p: P) -> Option<Found<P::Gen, V>>
-        requires { Kept sound list Inx-as-PtrInx.largest self.now }
-        ensures { held_in result ≡ found P.Gen.PtrGen.alike (cited Inx-as-PtrInx.number index mark p) (list self.now.m) }
+        requires { Kept S.sound S.list P.Inx.PtrInx.largest self.now }
+        ensures { held_in result ≡ found P.Gen.PtrGen.alike (cited P.Inx.PtrInx.number P.index P.mark p) (S.list self.now.m) }
     {
         find_record(&self.m, p.inx().try_into_usize()?, p.generation())
     }
 
     pub(crate) fn find_inx(&self, inx: P::Inx) -> Option<Found<P::Gen, V>>
-        requires { Kept sound list P.Inx.PtrInx.largest self.now }
-        ensures { held_in result ≡ named (or_zero (P.Inx.PtrInx.number inx)) (list self.now.m) }
+        requires { Kept S.sound S.list P.Inx.PtrInx.largest self.now }
+        ensures { held_in result ≡ named (or_zero (P.Inx.PtrInx.number inx)) (S.list self.now.m) }
     {
         record_at(&self.m, inx.try_into_usize()?)
     }
 
     /// Whether the arena holds the record that `p` cites.
     pub fn contains(&self, p: P) -> bool
-        requires { Kept sound list P.Inx.PtrInx.largest self.now }
-        ensures { result ≡ is_some (found P.Gen.PtrGen.alike (cited P.Inx.PtrInx.number index mark p) (list self.now.m)) }
+        requires { Kept S.sound S.list P.Inx.PtrInx.largest self.now }
+        ensures { result ≡ is_some (found P.Gen.PtrGen.alike (cited P.Inx.PtrInx.number P.index P.mark p) (S.list self.now.m)) }
     {
         match self.find(p) {
             Some(_) => true,
@@ -39,8 +39,8 @@ impl<P: Ptr, V: Copy, S: NonZeroInxGenericStack<DirectSlot<P::Gen, V>>> DirectAr
     }
 
     pub fn get(&self, p: P) -> Option<V>
-        requires { Kept sound list P.Inx.PtrInx.largest self.now }
-        ensures { of_found result ≡ value_answer (found P.Gen.PtrGen.alike (cited P.Inx.PtrInx.number index mark p) (list self.now.m)) }
+        requires { Kept S.sound S.list P.Inx.PtrInx.largest self.now }
+        ensures { of_found result ≡ value_answer (found P.Gen.PtrGen.alike (cited P.Inx.PtrInx.number P.index P.mark p) (S.list self.now.m)) }
     {
         match self.find(p) {
             Some(found) => Some(found.value),
@@ -50,8 +50,8 @@ impl<P: Ptr, V: Copy, S: NonZeroInxGenericStack<DirectSlot<P::Gen, V>>> DirectAr
 
     /// The same by index: the generation is not asked for, and comes with the value.
     pub fn get_inx(&self, inx: P::Inx) -> Option<(P::Gen, V)>
-        requires { Kept sound list P.Inx.PtrInx.largest self.now }
-        ensures { of_found result ≡ pair_answer (named (or_zero (P.Inx.PtrInx.number inx)) (list self.now.m)) }
+        requires { Kept S.sound S.list P.Inx.PtrInx.largest self.now }
+        ensures { of_found result ≡ pair_answer (named (or_zero (P.Inx.PtrInx.number inx)) (S.list self.now.m)) }
     {
         match self.find_inx(inx) {
             Some(found) => Some((found.generation, found.value)),
@@ -61,8 +61,8 @@ impl<P: Ptr, V: Copy, S: NonZeroInxGenericStack<DirectSlot<P::Gen, V>>> DirectAr
 
     /// Answers `p` where the arena holds its record. Nothing changes: generations are the caller's.
     pub fn invalidate(&mut self, p: P) -> InvalidationResult<P>
-        requires { Kept sound list P.Inx.PtrInx.largest self.old }
-        ensures answer { of_invalidation result ≡ pointer_answer p (found P.Gen.PtrGen.alike (cited P.Inx.PtrInx.number index mark p) (list self.old.m)) }
+        requires { Kept S.sound S.list P.Inx.PtrInx.largest self.old }
+        ensures answer { of_invalidation result ≡ pointer_answer p (found P.Gen.PtrGen.alike (cited P.Inx.PtrInx.number P.index P.mark p) (S.list self.old.m)) }
         ensures same { self.new ≡ self.old }
     {
         match self.find(p) {

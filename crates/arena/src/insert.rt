@@ -14,11 +14,11 @@ use stack::NonZeroInxGenericStack;
 impl<P: Ptr, V: Copy, S: NonZeroInxGenericStack<DirectSlot<P::Gen, V>>> DirectArena<P, V, S> {
     /// Brings in a record at the slot and under the generation of `p`; free slots are added up to it.
     pub fn direct_insert_within_capacity(&mut self, p: P, v: V) -> Result<(), DirectInsertionError>
-        requires { Kept sound list Inx-as-PtrInx.largest self.old }
-        ensures answer { of_insertion result ≡ insert_answer (min (room (config self.old.m)) Inx-as-PtrInx.largest) (cited Inx-as-PtrInx.number index mark p) (list self.old.m) }
-        ensures step { Step P.Gen.PtrGen.alike (entry (insertion (cited Inx-as-PtrInx.number index mark p) v) (of_insertion result)) (list self.old.m) (list self.new.m) }
-        ensures kept { config self.new.m ≡ config self.old.m }
-        ensures stands { Kept sound list Inx-as-PtrInx.largest self.new }
+        requires { Kept S.sound S.list P.Inx.PtrInx.largest self.old }
+        ensures answer { of_insertion result ≡ insert_answer (min (S.room (S.config self.old.m)) P.Inx.PtrInx.largest) (cited P.Inx.PtrInx.number P.index P.mark p) (S.list self.old.m) }
+        ensures step { Step P.Gen.PtrGen.alike (entry (insertion (cited P.Inx.PtrInx.number P.index P.mark p) v) (of_insertion result)) (S.list self.old.m) (S.list self.new.m) }
+        ensures kept { S.config self.new.m ≡ S.config self.old.m }
+        ensures stands { Kept S.sound S.list P.Inx.PtrInx.largest self.new }
     {
         let Some(n) = p.inx().try_into_usize() else {
             return Err(DirectInsertionError::NotWithinCapacity);

@@ -2,6 +2,8 @@
 //! It uses `kinds`, `history` and the traits of `stack`, and knows no stack of its own, no text and no program.
 //! Each call that may alter an arena promises the step that histories are made of; `len` carries the laws over them.
 
+#![tactic(auto)]
+
 pub mod arena;
 pub mod edit;
 pub mod ends;

@@ -2,6 +2,8 @@
 //! It may use every library below it, `kinds`, `history`, `stack`, `limited` and `arena`, and nothing uses it.
 //! A new stack or pointer kind gets its examples here, by theme, in few calls each.
 
+#![tactic(auto)]
+
 #[cfg(test)]
 mod tests {
     use arena::DirectArena;

@@ -2,6 +2,8 @@
 //! It uses no other crate of the repository, and knows nothing of pointers, stacks or arenas.
 //! What an answer means, as a number and values, is said in `outcome`.
 
+#![tactic(auto)]
+
 pub mod answer;
 
 pub use answer::{InvalidationOption, InvalidationResult};

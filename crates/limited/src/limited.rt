@@ -17,11 +17,11 @@ impl<S> LimitedStack<S> {
     pub fn new<U: Copy>(below: S) -> LimitedStack<S>
     where
         S: NonZeroInxGenericStack<U>,
-        requires { sound below }
-        ensures slots { list result.below ≡ [] }
-        ensures kept { config result.below ≡ config below }
-        ensures limit { result.limit ≡ room (config below) }
-        ensures stands { LimitedSound sound list result }
+        requires { S.sound below }
+        ensures slots { S.list result.below ≡ [] }
+        ensures kept { S.config result.below ≡ S.config below }
+        ensures limit { result.limit ≡ S.room (S.config below) }
+        ensures stands { LimitedSound S.sound S.list result }
     {
         let mut below = below;
         below.clear();

@@ -2,6 +2,8 @@
 //! It uses `text` for fields and numbers, and knows nothing of arenas or stacks.
 //! A new call of the runner is a case of `Verb` and of `Call`, with its text in `specs/Texts.antt`.
 
+#![tactic(auto)]
+
 pub mod call;
 pub mod parse;
 pub mod verb;

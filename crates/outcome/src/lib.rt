@@ -2,6 +2,8 @@
 //! It uses `invalidation`, whose answers it numbers too, and knows nothing of pointers, slots, stacks or arenas.
 //! A new answer type has its map in `specs/Outcome.antt`, so that refusals are numbered in one place.
 
+#![tactic(auto)]
+
 pub mod errors;
 
 pub use errors::{

@@ -2,6 +2,8 @@
 //! It uses `runner`, which does all the work, and adds the 256 slots, the reading and the writing.
 //! What is read and written is tested on the sample beside it; everything between is proved below.
 
+#![tactic(auto)]
+
 use kinds::DirectSlot;
 use passages::{Slot, open};
 use runner::run;

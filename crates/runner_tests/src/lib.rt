@@ -2,6 +2,8 @@
 //! It uses `runner` and what that stands on, and is used by nothing.
 //! Expected reports are written by hand from the rules in docs/REGISTER.md.
 
+#![tactic(auto)]
+
 #[cfg(test)]
 mod tests {
     use kinds::DirectSlot;

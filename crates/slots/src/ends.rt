@@ -11,10 +11,10 @@ use stack::NonZeroInxGenericStack;
 pub fn first_record<G: Copy, V: Copy, S: NonZeroInxGenericStack<DirectSlot<G, V>>>(
     m: &S,
 ) -> Option<Found<G, V>>
-    requires { sound m.now }
-    ensures first { held_in result ≡ first_of (held 1 (list m.now)) }
-    ensures absent { is_some result ≡ not (count (list m.now) == 0) }
-    ensures within { Within result (length (list m.now)) }
+    requires { S.sound m.now }
+    ensures first { held_in result ≡ first_of (held 1 (S.list m.now)) }
+    ensures absent { is_some result ≡ not (count (S.list m.now) == 0) }
+    ensures within { Within result (length (S.list m.now)) }
 {
     for n in 1..m.len() + 1 {
         if let Some(found) = record_at(m, n) {
@@ -28,10 +28,10 @@ pub fn first_record<G: Copy, V: Copy, S: NonZeroInxGenericStack<DirectSlot<G, V>
 pub fn last_record<G: Copy, V: Copy, S: NonZeroInxGenericStack<DirectSlot<G, V>>>(
     m: &S,
 ) -> Option<Found<G, V>>
-    requires { sound m.now }
-    ensures last { held_in result ≡ last_of (held 1 (list m.now)) }
-    ensures absent { is_some result ≡ not (count (list m.now) == 0) }
-    ensures within { Within result (length (list m.now)) }
+    requires { S.sound m.now }
+    ensures last { held_in result ≡ last_of (held 1 (S.list m.now)) }
+    ensures absent { is_some result ≡ not (count (S.list m.now) == 0) }
+    ensures within { Within result (length (S.list m.now)) }
 {
     for n in (1..m.len() + 1).rev() {
         if let Some(found) = record_at(m, n) {
@@ -43,8 +43,8 @@ pub fn last_record<G: Copy, V: Copy, S: NonZeroInxGenericStack<DirectSlot<G, V>>
 
 // Whether there is a last slot and it is free.
 fn ends_free<G: Copy, V: Copy, S: NonZeroInxGenericStack<DirectSlot<G, V>>>(m: &S) -> bool
-    requires { sound m.now }
-    ensures { result ≡ ends_free (list m.now) }
+    requires { S.sound m.now }
+    ensures { result ≡ ends_free (S.list m.now) }
 {
     match m.get(m.len()) {
         Some(DirectSlot::Free) => true,
@@ -58,13 +58,13 @@ pub fn pop_free<G: Copy, V: Copy, S: NonZeroInxGenericStack<DirectSlot<G, V>>>(
     m: &mut S,
     num: usize,
 ) -> usize
-    requires { sound m.old }
-    ensures answer { result ≡ length (list m.old) - length (trimmed num (list m.old)) }
-    ensures slots { list m.new ≡ trimmed num (list m.old) }
-    ensures counted { count (list m.new) ≡ count (list m.old) }
-    ensures long { length (list m.new) ≤ length (list m.old) }
-    ensures kept { config m.new ≡ config m.old }
-    ensures stands { sound m.new }
+    requires { S.sound m.old }
+    ensures answer { result ≡ length (S.list m.old) - length (trimmed num (S.list m.old)) }
+    ensures slots { S.list m.new ≡ trimmed num (S.list m.old) }
+    ensures counted { count (S.list m.new) ≡ count (S.list m.old) }
+    ensures long { length (S.list m.new) ≤ length (S.list m.old) }
+    ensures kept { S.config m.new ≡ S.config m.old }
+    ensures stands { S.sound m.new }
 {
     let mut popped = 0;
     while popped < num && ends_free(m) {

@@ -19,8 +19,8 @@ pub fn record_at<G: Copy, V: Copy, S: NonZeroInxGenericStack<DirectSlot<G, V>>>(
     m: &S,
     slot: usize,
 ) -> Option<Found<G, V>>
-    requires { sound m.now }
-    ensures { held_in result ≡ named slot (list m.now) }
+    requires { S.sound m.now }
+    ensures { held_in result ≡ named slot (S.list m.now) }
 {
     match m.get(slot) {
         Some(DirectSlot::Allocated(generation, value)) => Some(Found {
@@ -38,8 +38,8 @@ pub fn find_record<G: PtrGen, V: Copy, S: NonZeroInxGenericStack<DirectSlot<G, V
     slot: usize,
     cited: G,
 ) -> Option<Found<G, V>>
-    requires { sound m.now }
-    ensures { held_in result ≡ found alike (to slot cited) (list m.now) }
+    requires { S.sound m.now }
+    ensures { held_in result ≡ found G.alike (to slot cited) (S.list m.now) }
 {
     match m.get(slot) {
         Some(DirectSlot::Allocated(generation, value)) if generation.matches(cited) => Some(
@@ -58,8 +58,8 @@ pub fn is_vacant<G: Copy, V: Copy, S: NonZeroInxGenericStack<DirectSlot<G, V>>>(
     m: &S,
     slot: usize,
 ) -> bool
-    requires { sound m.now }
-    ensures { result ≡ is_free (at slot (list m.now)) }
+    requires { S.sound m.now }
+    ensures { result ≡ is_free (at slot (S.list m.now)) }
 {
     match record_at(m, slot) {
         Some(_) => false,

@@ -2,6 +2,8 @@
 //! It uses `kinds`, the traits of `stack`, and `history` for what slots are; it knows no arena and keeps no count.
 //! A call of an arena that needs a loop has it here, as a function with its equation on the list of slots.
 
+#![tactic(auto)]
+
 pub mod ends;
 pub mod find;
 pub mod write;

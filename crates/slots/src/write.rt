@@ -12,10 +12,10 @@ use stack::NonZeroInxGenericStack;
 
 // Adds free slots until there are n.
 fn fill_to<G: Copy, V: Copy, S: NonZeroInxGenericStack<DirectSlot<G, V>>>(m: &mut S, n: usize)
-    requires { (sound m.old) × (n ≤ room (config m.old)) }
-    ensures slots { list m.new ≡ filled (list m.old) n }
-    ensures kept { config m.new ≡ config m.old }
-    ensures stands { sound m.new }
+    requires { (S.sound m.old) × (n ≤ S.room (S.config m.old)) }
+    ensures slots { S.list m.new ≡ filled (S.list m.old) n }
+    ensures kept { S.config m.new ≡ S.config m.old }
+    ensures stands { S.sound m.new }
 {
     while m.len() < n {
         let _ = m.push_within_capacity(DirectSlot::Free);
@@ -29,15 +29,15 @@ fn place<G: Copy, V: Copy, S: NonZeroInxGenericStack<DirectSlot<G, V>>>(
     generation: G,
     value: V,
 )
-    requires sound { sound m.old }
+    requires sound { S.sound m.old }
     requires low { 1 ≤ n }
-    requires high { n ≤ room (config m.old) }
-    requires vacant { is_free (at n (list m.old)) ≡ true }
-    ensures slots { list m.new ≡ write n (Allocated generation value) (list m.old) }
-    ensures counted { count (list m.new) ≡ count (list m.old) + 1 }
-    ensures long { length (list m.new) ≡ max n (length (list m.old)) }
-    ensures kept { config m.new ≡ config m.old }
-    ensures stands { sound m.new }
+    requires high { n ≤ S.room (S.config m.old) }
+    requires vacant { is_free (at n (S.list m.old)) ≡ true }
+    ensures slots { S.list m.new ≡ write n (Allocated generation value) (S.list m.old) }
+    ensures counted { count (S.list m.new) ≡ count (S.list m.old) + 1 }
+    ensures long { length (S.list m.new) ≡ max n (length (S.list m.old)) }
+    ensures kept { S.config m.new ≡ S.config m.old }
+    ensures stands { S.sound m.new }
 {
     fill_to(m, n);
     let _ = m.replace(n, DirectSlot::Allocated(generation, value));
@@ -51,11 +51,11 @@ pub fn insert_record<G: Copy, V: Copy, S: NonZeroInxGenericStack<DirectSlot<G, V
     generation: G,
     value: V,
 ) -> Result<(), DirectInsertionError>
-    requires { sound m.old }
-    ensures answer { of_insertion result ≡ insert_answer (room (config m.old)) (to n generation) (list m.old) }
-    ensures left { Inserted (of_insertion result) n (Allocated generation value) (list m.old) (list m.new) }
-    ensures kept { config m.new ≡ config m.old }
-    ensures stands { sound m.new }
+    requires { S.sound m.old }
+    ensures answer { of_insertion result ≡ insert_answer (S.room (S.config m.old)) (to n generation) (S.list m.old) }
+    ensures left { Inserted (of_insertion result) n (Allocated generation value) (S.list m.old) (S.list m.new) }
+    ensures kept { S.config m.new ≡ S.config m.old }
+    ensures stands { S.sound m.new }
 {
     if n == 0 || n > m.capacity() {
         return Err(DirectInsertionError::NotWithinCapacity);
@@ -73,13 +73,13 @@ pub fn overwrite<G: Copy, V: Copy, S: NonZeroInxGenericStack<DirectSlot<G, V>>>(
     n: usize,
     slot: DirectSlot<G, V>,
 )
-    requires sound { sound m.old }
-    requires held { is_held (at n (list m.old)) ≡ true }
-    ensures slots { list m.new ≡ write n slot (list m.old) }
-    ensures counted { count (list m.new) + 1 ≡ count (list m.old) + taken slot }
-    ensures long { length (list m.new) ≡ length (list m.old) }
-    ensures kept { config m.new ≡ config m.old }
-    ensures stands { sound m.new }
+    requires sound { S.sound m.old }
+    requires held { is_held (at n (S.list m.old)) ≡ true }
+    ensures slots { S.list m.new ≡ write n slot (S.list m.old) }
+    ensures counted { count (S.list m.new) + 1 ≡ count (S.list m.old) + taken slot }
+    ensures long { length (S.list m.new) ≡ length (S.list m.old) }
+    ensures kept { S.config m.new ≡ S.config m.old }
+    ensures stands { S.sound m.new }
 {
     let _ = m.replace(n, slot);
 }

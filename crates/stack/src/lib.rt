@@ -2,6 +2,8 @@
 //! It uses `kinds`, for places in a list, and `outcome`, for the errors and what they mean.
 //! It knows nothing of arenas or of what a slot holds.
 
+#![tactic(auto)]
+
 pub mod fixed;
 pub mod generic;
 pub mod lent;

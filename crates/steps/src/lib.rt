@@ -2,5 +2,7 @@
 //! It uses `lines` for the calls, `answers` for what they answer, and what the register is made of.
 //! It knows nothing of whole scripts, and reads and writes nothing.
 
+#![tactic(auto)]
+
 pub mod calls;
 pub mod step;

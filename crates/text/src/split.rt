@@ -3,7 +3,7 @@ ghost use Rattle.std.specs.Prelude.{◌≡◌, ◌<◌, [], ◌∷◌, length, I
 ghost use Rattle.text.specs.Fields.{four_in_some};
 ghost use Rattle.text.specs.Split.{split, four_of, lines_of};
 
-/// Fields and lines are both Cut by this: what stands before the first byte `at`, and after it.
+/// Fields and lines are both cut by this: what stands before the first byte `at`, and after it.
 pub fn split_once(bytes: &[u8], at: u8) -> Option<(&[u8], &[u8])>
     ensures parts { MatchOption result (split at bytes.now ≡ bytes.now ∷ []) (λ p. split at bytes.now ≡ p.0.now ∷ split at p.1.now) }
     ensures shorter { IfSome result (λ p. length p.1.now < length bytes.now) }

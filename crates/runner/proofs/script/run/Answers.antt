@@ -9,23 +9,23 @@ pub returns : goal.returns
 returns c =
     let old = state_of c.args.register.now in
     let script = script_of c.args.input.now in
-    let e = c.in-ok-add-report.ensures in
+    let e = c.in_ok-add_report.ensures in
     record {
-      text = e.text ∙ ap (λ l. l ++ answers_to old script) c.in-ok-out.ensures.ok;
+      text = e.text ∙ ap (λ l. l ++ answers_to old script) c.in_ok-out.ensures.ok;
       after = e.after;
       led = subst (λ (st : State). Led old script st) (sym e.after) (script_leads old script);
-      stopped = stopped_there old _ script c.add-report.ensures.reached;
-      ready = c.add-report.ensures.ready;
+      stopped = stopped_there old _ script c.add_report.ensures.reached;
+      ready = c.add_report.ensures.ready;
     }
 
-pub returns-in-err-out : goal.returns-in-err-out
-returns-in-err-out c =
+pub returns-in_err-out : goal.returns-in_err-out
+returns-in_err-out c =
     let old = state_of c.args.register.now in
     let script = script_of c.args.input.now in
     record { text = search rules; after = search rules; led = search rules; stopped = stopped_there old old script (none_reached old (lines_by script)); ready = c.requires }
 
-pub returns-in-err-add-report : goal.returns-in-err-add-report
-returns-in-err-add-report c =
+pub returns-in_err-add_report : goal.returns-in_err-add_report
+returns-in_err-add_report c =
     let old = state_of c.args.register.now in
     let script = script_of c.args.input.now in
-    record { text = search rules; after = search rules; led = search rules; stopped = stopped_there old _ script c.add-report.ensures.reached; ready = c.add-report.ensures.ready }
+    record { text = search rules; after = search rules; led = search rules; stopped = stopped_there old _ script c.add_report.ensures.reached; ready = c.add_report.ensures.ready }

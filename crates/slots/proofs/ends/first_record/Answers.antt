@@ -9,7 +9,7 @@ returns-in-Some g c =
     record { first = f.0; absent = ap is_some f.0 ∙ first_absent 1 s; within = (omega (arith, f.1, c.loop-n.auto.n), omega (arith, f.1)) }
 
 pub loop-n-preserved : goal.loop-n-preserved
-loop-n-preserved g c = none_more _ _ c.loop-n.auto.n (omega arith) c.loop-n.invariant c.in-default.ensures
+loop-n-preserved g c = none_more _ _ c.loop-n.auto.n (omega arith) c.loop-n.invariant c.in_default.ensures
 
 pub returns : goal.returns
 returns g c =

@@ -17,7 +17,7 @@ pub loop-n-preserved : goal.loop-n-preserved
 loop-n-preserved g c =
     let n = c.loop-n.n in
     let q : (n - 1) + 1 ≡ n = omega arith in
-    last_more (g.S.NonZeroInxGenericStack.list c.args.m.now) (n - 1) (omega arith) (omega arith) (rw q c.loop-n.invariant) c.in-default.ensures
+    last_more (g.S.NonZeroInxGenericStack.list c.args.m.now) (n - 1) (omega arith) (omega arith) (rw q c.loop-n.invariant) c.in_default.ensures
 
 pub returns : goal.returns
 returns g c =

@@ -7,13 +7,13 @@ loop-popped-preserved g c =
     let s = g.S.NonZeroInxGenericStack.list in
     let k = c.loop-popped.invariant in
     let p = c.pop.ensures in
-    (p.stands, p.kept ∙ k.1, trim_more c.args.num c.loop-popped.popped (s c.args.m.now) (s c.loop-popped.m) k.2 (s c.pop.new.self) c.loop-popped-test.true c.if-ends-free.ensures p.slots)
+    (p.stands, p.kept ∙ k.1, trim_more c.args.num c.loop-popped.popped (s c.args.m.now) (s c.loop-popped.m) k.2 (s c.pop.new.self) c.loop-popped-test.true c.if-ends_free.ensures p.slots)
 
-pub returns-else-ends-free : goal.returns-else-ends-free
-returns-else-ends-free g c =
+pub returns-else-ends_free : goal.returns-else-ends_free
+returns-else-ends_free g c =
     let s = g.S.NonZeroInxGenericStack.list in
     let k = c.loop-popped.invariant in
-    let e = trim_held c.args.num c.loop-popped.popped (s c.args.m.now) (s c.loop-popped.m) k.2 c.if-ends-free.ensures in
+    let e = trim_held c.args.num c.loop-popped.popped (s c.args.m.now) (s c.loop-popped.m) k.2 c.if-ends_free.ensures in
     record {
       answer = trim_count c.args.num c.loop-popped.popped (s c.args.m.now) (s c.loop-popped.m) k.2 e;
       slots = e;

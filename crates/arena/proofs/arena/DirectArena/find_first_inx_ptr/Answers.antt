@@ -4,12 +4,12 @@ use Rattle.arena.proofs.arena.DirectArena.find_first_inx_ptr.Goals as goal
 
 pub returns-in-Some : goal.returns-in-Some
 returns-in-Some g c =
-    let point = λ (n : ℕ) (γ : g.row.P-Gen.Denot). g.P.Ptr.made (g.Inx.PtrInx.indexed n) γ in
+    let point = λ (n : ℕ) (γ : g.row.P-Gen.Denot). g.P.Ptr.made (g.P.Inx.PtrInx.indexed n) γ in
     let e = c.in-Some.ensures in
     record { pointer = ap Some c.point.ensures ∙ ap (pointer_of point) e.first; absent = e.absent }
 
 pub returns-in-None : goal.returns-in-None
 returns-in-None g c =
-    let point = λ (n : ℕ) (γ : g.row.P-Gen.Denot). g.P.Ptr.made (g.Inx.PtrInx.indexed n) γ in
+    let point = λ (n : ℕ) (γ : g.row.P-Gen.Denot). g.P.Ptr.made (g.P.Inx.PtrInx.indexed n) γ in
     let e = c.in-None.ensures in
     record { pointer = ap (pointer_of point) e.first; absent = e.absent }

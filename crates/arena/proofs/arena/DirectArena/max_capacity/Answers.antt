@@ -1,4 +1,4 @@
 use Rattle.arena.proofs.arena.DirectArena.max_capacity.Goals as goal
 
 pub returns : goal.returns
-returns g c = c.max-capacity.ensures
+returns g c = c.max_capacity.ensures

@@ -3,7 +3,7 @@ use Rattle.arena.proofs.arena.DirectArena.pop_free_end_slots.Goals as goal
 
 pub returns : goal.returns
 returns g c =
-    let e = c.pop_free_lem.ensures in
+    let e = c.pop_free.ensures in
     record {
       answer = e.answer;
       step = record { asked = λ q. q; slots = e.slots };

@@ -4,7 +4,7 @@ use Rattle.limited.proofs.limited.LimitedStackNonZeroInxGenericStack.push_within
 
 pub returns-then-len-self : goal.returns-then-len-self
 returns-then-len-self g c =
-    let p = c.push-within-capacity.ensures in
+    let p = c.push_within_capacity.ensures in
     let xs = g.S.NonZeroInxGenericStack.list c.args.self.now.below in
     let lt : length xs < c.args.self.now.limit = omega arith in
     record {
