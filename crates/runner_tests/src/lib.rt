@@ -9,7 +9,6 @@ mod tests {
     use kinds::DirectSlot;
     use passages::{Slot, open};
     use runner::run;
-    use stack::NonZeroInxGenericStack;
     use std::alloc::{AllocError, Global};
     use std::test::Fail;
 
@@ -37,7 +36,7 @@ mod tests {
         let out = report(heap, input)?;
         Ok(
             out.as_bytes()
-                == b"answer slot generation value count slots capacity\n11 - - - 0 0 16\n",
+                == b"answer slot generation value count slots capacity\n11 - - - 0 0 16\n".as_slice(),
         )
     }
 
@@ -66,7 +65,9 @@ mod tests {
     #[test]
     fn names_alone_may_lack_their_end(rt: HostRuntime) -> Result<(), Fail> {
         let out = report(rt.alloc(), b"call slot generation value")?;
-        assert!(rt; out.as_bytes() == b"answer slot generation value count slots capacity\n");
+        assert!(rt;
+            out.as_bytes() == b"answer slot generation value count slots capacity\n".as_slice()
+        );
         Ok(())
     }
 
