@@ -1,5 +1,5 @@
 -- An insertion by pointer is one by the number of its index, where that converts.
-use Rattle.std.proofs.Common.{◌≡◌, ℕ, ◌≤◌, min, Bool, cond, ◌⊎◌, Some, Ok, Err, Option, Result, sym, refl, ap, ◌∙◌, inl, inr, arith}
+use Rattle.std.proofs.Common.{◌≡◌, ℕ, ◌≤◌, min, Bool, cond, Some, Ok, Err, Option, Result, sym, refl, ap, ◌∙◌, inl, inr, arith}
 use Rattle.std.proofs.lemmas.Bool.{le-leb, lt-leb, cases_lt}
 use Rattle.outcome.specs.Outcome.{Outcome, done, refused, of_insertion}
 use Rattle.outcome.specs.declared.errors.DirectInsertionError.{DirectInsertionError}

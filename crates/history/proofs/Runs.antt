@@ -1,7 +1,7 @@
 -- The laws over every history.
 use Rattle.std.proofs.Common.{◌≡◌, ℕ, zero, suc, ◌+◌, ◌<◌, ◌≤◌, Bool, ◌⊎◌, List, [], ◌∷◌, ◌++◌, length, sym, refl, ap, ◌∙◌, inl, inr, arith}
 use Rattle.std.specs.List.{slice_get}
-use Rattle.kinds.specs.declared.slot.DirectSlot.TheVariants.{Free, Allocated}
+use Rattle.kinds.specs.declared.slot.DirectSlot.TheVariants.{Allocated}
 use Rattle.history.specs.Slots.{Slots, Ptr, ptr, or_free, at, count}
 use Rattle.history.specs.Calls.{insert, Entry, Leads, made, next}
 use Rattle.history.specs.Roll.{Line, Roll, rolled, roll}
