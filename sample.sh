@@ -1,12 +1,11 @@
 #!/usr/bin/env bash
 # Builds the register, runs it on the sample script, and prints each call beside its answer.
 set -eu
-cd "$(dirname "$0")"
-rt check register > target.log 2>&1 || { cat target.log; rm -f target.log; exit 1; }
-rm -f target.log
+cd "$(dirname "$0")/crates/register"
 answers=$(mktemp)
-trap 'rm -f "$answers"' EXIT
-target/bin/register < crates/register/stdin > "$answers"
-paste <(cat crates/register/stdin; echo) "$answers" | while IFS=$'\t' read -r call answer; do
+log=$(mktemp)
+trap 'rm -f "$answers" "$log"' EXIT
+rt run < stdin > "$answers" 2> "$log" || { cat "$log" "$answers" >&2; exit 1; }
+paste <(cat stdin; echo) "$answers" | while IFS=$'\t' read -r call answer; do
   printf '%-30s %s\n' "$call" "$answer"
 done

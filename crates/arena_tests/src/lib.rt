@@ -1,5 +1,5 @@
 //! Examples of what arenas do on each stack and each pointer kind: every one is proved to be safe and to end, and run.
-//! It may use every library below it, `kinds`, `history`, `stack`, `limited` and `arena`, and nothing uses it.
+//! It may use the arena and every library below it, and nothing uses it.
 //! A new stack or pointer kind gets its examples here, by theme, in few calls each.
 
 #![tactic(auto)]

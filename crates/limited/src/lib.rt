@@ -1,5 +1,5 @@
 //! Any stack under a limit that its owner sets.
-//! It uses `kinds`, for the errors and the outcomes that they mean, and the traits of `stack`.
+//! It uses `outcome`, for the errors and what they mean, and the traits of `stack`.
 //! It knows nothing of arenas, nor of the stack below.
 
 #![tactic(auto)]

@@ -6,7 +6,6 @@ use arena::DirectArena;
 use kinds::{DirectSlot, PtrOf, SeasonGen, ShortInx};
 use limited::LimitedStack;
 use slab_stack::SlabStack;
-use stack::NonZeroInxGenericStack;
 
 pub type Pointer = PtrOf<ShortInx, SeasonGen>;
 

@@ -8,7 +8,6 @@ use answers::answer::Answer;
 use answers::write::add_line;
 use lines::parse::parse;
 use passages::{Register, tally};
-use stack::NonZeroInxGenericStack;
 use std::alloc::{AllocError, Global};
 use steps::step::step;
 use text::split::first_line;

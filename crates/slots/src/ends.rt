@@ -3,7 +3,7 @@ ghost use Rattle.history.specs.Slots.{count, held, trimmed};
 ghost use Rattle.slots.specs.Records.{first_of, last_of, ends_free};
 ghost use Rattle.slots.specs.Found.{held_in, Within};
 
-use crate::find::{Found, is_vacant, record_at};
+use crate::find::{Found, record_at};
 use kinds::DirectSlot;
 use stack::NonZeroInxGenericStack;
 

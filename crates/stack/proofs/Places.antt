@@ -1,4 +1,4 @@
--- What `slot_at` and `slotPut` give of a list, and of the front of one.
+-- What `slot_at` and `slot_put` give of a list, and of the front of one.
 use Rattle.std.proofs.Common.{◌≡◌, ℕ, zero, suc, ◌+◌, ◌-◌, ◌<◌, ◌≤◌, true, false, ltb, List, [], ◌∷◌, length, get_or, take, set, Some, None, sym, refl, ap, ◌∙◌, arith}
 use Rattle.std.proofs.lemmas.Option.{slice_get_read, slice_get_past}
 use Rattle.std.proofs.lemmas.List.{length-take-le, get_or-take, take_more_set, set_past, take-take}

@@ -6,7 +6,6 @@ ghost use Rattle.steps.specs.Model.{outcome, answer_of, state_after};
 use answers::answer::{Answer, Concerned};
 use outcome::{DirectInsertionError, ReallocationError};
 use passages::register::{Register, pointer, tally};
-use stack::{NonZeroInxGenericStack, SetMaxCapacity};
 
 pub(crate) fn insert(register: &mut Register<'_>, slot: u16, generation: u32, value: u32) -> Answer
     requires { Ready register.old }

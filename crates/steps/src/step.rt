@@ -8,7 +8,6 @@ use answers::answer::Answer;
 use lines::call::Call;
 use lines::parse::Parsed;
 use passages::register::{Register, tally};
-use stack::NonZeroInxGenericStack;
 
 // Carries out a call that a line asks for.
 fn carry_out(register: &mut Register<'_>, call: Call) -> Answer
