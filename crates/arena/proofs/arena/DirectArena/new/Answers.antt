@@ -1,8 +1,0 @@
-use Rattle.std.proofs.Common.{length, sym, ap, arith}
-use Rattle.history.specs.Slots.{count}
-use Rattle.arena.proofs.arena.DirectArena.new.Goals as goal
-
-pub returns : goal.returns
-returns g c =
-    let e = c.clear.ensures in
-    record { slots = e.slots; kept = e.kept; stands = record { stack = e.stands; counted = sym (ap count e.slots); indexed = omega (arith, ap length e.slots) } }
