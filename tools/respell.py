@@ -1,11 +1,14 @@
 #!/usr/bin/env python3
 """Brings the repository's own definitions and lemmas to today's spelling; run once, at the top, after port.py.
 
-A definition or lemma that is declared in specs/ or in a lemma file of proofs/ goes to snake case, and one that is a
-fact or a relation (its signature ends in `Type 0`) to upper camel case. Functions, types, strings, inputs and outputs
-keep their names. A lemma that would get the name of a definition or of a function of src/ gets `_lem` behind it. The
-crate `slab`, whose name a library has today, becomes `slab_stack`. It stops, with nothing written, where two names
-would fall together.
+A definition or lemma that is declared in specs/ or proofs/ (answers to goals aside) goes to snake case, and one that is
+a fact or a relation (its signature ends in `Type 0`) to upper camel case. Functions, types, inputs and outputs keep
+their names. A lemma that would get the name of a definition or of a function of src/ gets `_lem` behind it; a definition
+may get the name of a function, which no clause can name. The crate `slab`, whose name a library has today, becomes
+`slab_stack`. It stops, with nothing written, where two names would fall together.
+
+It goes by text: a word is turned wherever it stands in a .rt or .antt file, as in a comment, or where it names a local
+variable. What that garbled was mended by hand afterwards.
 """
 import collections
 import glob

@@ -35,22 +35,22 @@ module _ {st₀ : State} {out₀ input : List ℕ} where
 
     -- one line more, whether or not its answer could be written
     pub line_more : (line next : List ℕ) (parsed : Parsed) (new : State) → lines_of rest ≡ line ∷ lines_of next → parsed ≡ meaning line → new ≡ after_line st parsed → Reached st₀ (lines_of input) new
-    line_more line next parsed new Cut reads moves = record {
+    line_more line next parsed new cut reads moves = record {
       front = old.front ++ line ∷ [];
       back = lines_of next;
-      parts = old.parts ∙ ap (λ ls. old.front ++ ls) Cut ∙ sym (append_assoc old.front (line ∷ []) (lines_of next));
+      parts = old.parts ∙ ap (λ ls. old.front ++ ls) cut ∙ sym (append_assoc old.front (line ∷ []) (lines_of next));
       state = moves ∙ ap (after_line st) reads ∙ ap (λ s. after_line s (meaning line)) old.state ∙ after_push st₀ old.front line;
     }
 
     pub one_more : {line next grown : List ℕ} {parsed : Parsed} {answer : Answer} {new : State} → lines_of rest ≡ line ∷ lines_of next → parsed ≡ meaning line → answer ≡ answer_to st parsed → new ≡ after_line st parsed → grown ≡ out ++ answer_line answer → Sofar st₀ out₀ input new grown next
     unfolding line_more
-    one_more {line} {next} {grown} {parsed} {answer} {new} Cut reads answers moves writes =
-        let more = line_more line next parsed new Cut reads moves in
+    one_more {line} {next} {grown} {parsed} {answer} {new} cut reads answers moves writes =
+        let more = line_more line next parsed new cut reads moves in
         let state : new ≡ after_line st (meaning line) = moves ∙ ap (after_line st) reads in
         let told : grown ≡ out ++ answer_line (answer_to st (meaning line)) = writes ∙ ap (λ a. out ++ answer_line a) (answers ∙ ap (answer_to st) reads) in
         record {
-          text = rw (state, told, append_assoc) (ap (λ ls. out ++ output st ls) (sym Cut) ∙ old.text);
-          after = rw state (ap (after_all st) (sym Cut) ∙ old.after);
+          text = rw (state, told, append_assoc) (ap (λ ls. out ++ output st ls) (sym cut) ∙ old.text);
+          after = rw state (ap (after_all st) (sym cut) ∙ old.after);
           front = more.front;
           parts = more.parts;
           state = more.state;
