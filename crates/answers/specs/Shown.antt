@@ -1,50 +1,50 @@
--- The answers that calls give, and what is written of them.
+-- What is written of an answer.
 use Rattle.std.specs.Prelude.{ℕ, List, [], ◌∷◌, ◌++◌, codes, decimal}
+use Rattle.answers.specs.Refusals.{of_verdict}
 use Rattle.answers.specs.declared.answer.Answer.{Answer}
 use Rattle.answers.specs.declared.answer.Concerned.{Concerned}
-use Rattle.answers.specs.declared.answer.Entry.{Entry}
-use Rattle.answers.specs.declared.answer.Entry.TheVariants.{Blank, Number}
+use Rattle.answers.specs.declared.answer.Concerned.TheVariants.{Record, Value, Nothing}
 use Rattle.answers.specs.declared.answer.Tally.{Tally}
-use Rattle.answers.specs.declared.answer.Verdict.{Verdict}
-use Rattle.answers.specs.declared.answer.Verdict.TheVariants.{Done, Refused}
-
-abbrev pub entry_text : Entry → List ℕ
-entry_text Blank = codes "-"
-entry_text (Number n) = decimal n
-
-abbrev pub verdict_text : Verdict → List ℕ
-verdict_text Done = codes "ok"
-verdict_text (Refused n) = decimal n
+use Rattle.outcome.specs.Outcome.{Outcome, done, overflowed, refused}
 
 -- two texts with a space between
 abbrev pub spaced : List ℕ → List ℕ → List ℕ
 spaced a b = a ++ (codes " " ++ b)
 
+-- a field that is blank
+abbrev pub blank : List ℕ
+blank = codes "-"
+
 abbrev pub concerned_text : Concerned → List ℕ
-concerned_text c = spaced (entry_text c.slot) (spaced (entry_text c.generation) (entry_text c.value))
+concerned_text (Record s g v) = spaced (decimal s) (spaced (decimal g) (decimal v))
+concerned_text (Value v) = spaced blank (spaced blank (decimal v))
+concerned_text Nothing = spaced blank (spaced blank blank)
 
 abbrev pub tally_text : Tally → List ℕ
 tally_text t = spaced (decimal t.count) (spaced (decimal t.slots) (decimal t.capacity))
 
-abbrev pub answer_text : Answer → List ℕ
-answer_text a = spaced (verdict_text a.verdict) (spaced (concerned_text a.concerned) (tally_text a.tally))
+abbrev pub verdict_text : Outcome Concerned → List ℕ
+verdict_text (done c) = codes "ok"
+verdict_text (overflowed c) = codes "ok"
+verdict_text (refused n) = decimal n
+
+-- a refused call shows no pointer and no value
+abbrev pub concerned_in : Outcome Concerned → Concerned
+concerned_in (done c) = c
+concerned_in (overflowed c) = c
+concerned_in (refused n) = Nothing
+
+-- what an answer says: what became of the call, and how much is held then
+pub record Reply : Type 0 where
+  pub verdict : Outcome Concerned
+  pub tally : Tally
+
+abbrev pub reply_of : Answer → Reply
+reply_of a = record { verdict = of_verdict a.verdict; tally = a.tally }
+
+abbrev pub reply_text : Reply → List ℕ
+reply_text r = spaced (verdict_text r.verdict) (spaced (concerned_text (concerned_in r.verdict)) (tally_text r.tally))
 
 -- with its line break
-abbrev pub answer_line : Answer → List ℕ
-answer_line a = answer_text a ++ (10 ∷ [])
-
-abbrev pub concerns_record : ℕ → ℕ → ℕ → Concerned
-concerns_record s g v = record { slot = Number s; generation = Number g; value = Number v }
-
-abbrev pub concerns_value : ℕ → Concerned
-concerns_value v = record { slot = Blank; generation = Blank; value = Number v }
-
-abbrev pub concerns_nothing : Concerned
-concerns_nothing = record { slot = Blank; generation = Blank; value = Blank }
-
--- a refused call shows its number, and what the arena still holds
-abbrev pub refusal : ℕ → Tally → Answer
-refusal n t = record { verdict = Refused n; concerned = concerns_nothing; tally = t }
-
-abbrev pub accepted : Concerned → Tally → Answer
-accepted c t = record { verdict = Done; concerned = c; tally = t }
+abbrev pub reply_line : Reply → List ℕ
+reply_line r = reply_text r ++ (10 ∷ [])

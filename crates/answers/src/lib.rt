@@ -1,8 +1,9 @@
-//! The lines that a runner writes: a verdict, what a call concerned, and a tally.
-//! It only holds numbers and prints them, and knows nothing of arenas or stacks.
-//! It may use no crate but std.
+//! The lines that a runner writes: what a call concerned or why it was refused, and a tally.
+//! It uses `outcome` for the errors that a refusal stands for, and knows nothing of arenas or stacks.
+//! A new refusal is a variant of `Refusal`, with its number in `specs/Refusals.antt`.
 
 #![tactic(auto)]
 
 pub mod answer;
+pub mod refusal;
 pub mod write;

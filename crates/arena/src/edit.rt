@@ -2,7 +2,6 @@ ghost use Rattle.std.specs.Prelude.{◌≡◌};
 ghost use Rattle.kinds.specs.Places.{or_zero};
 ghost use Rattle.outcome.specs.Outcome.{of_found, of_invalidation};
 ghost use Rattle.history.specs.Calls.{index as by_index, pointer as by_pointer, edit as editing, remove as removal, entry, Step};
-ghost use Rattle.arena.specs.Kept.{Kept};
 ghost use Rattle.slots.specs.Records.{named, found};
 ghost use Rattle.arena.specs.Answers.{cited, value_answer, pair_answer, edit_answer, edit_pair_answer};
 
@@ -12,82 +11,66 @@ use kinds::{DirectSlot, Ptr, PtrInx};
 use slots::overwrite;
 use stack::NonZeroInxGenericStack;
 
-impl<P: Ptr, V: Copy, S: NonZeroInxGenericStack<DirectSlot<P::Gen, V>>> DirectArena<P, V, S> {
+impl<P: Ptr, V: Copy, S: NonZeroInxGenericStack<Slot = DirectSlot<P::Gen, V>>> DirectArena<
+    P,
+    V,
+    S,
+> {
     /// Puts a new value into the record that `p` cites, and answers it.
     pub fn edit(&mut self, p: P, v: V) -> Option<V>
-        requires { Kept S.sound S.list P.Inx.PtrInx.largest self.old }
-        ensures answer { of_found result ≡ edit_answer v (found P.Gen.PtrGen.alike (cited P.Inx.PtrInx.number P.index P.mark p) (S.list self.old.m)) }
-        ensures step { Step P.Gen.PtrGen.alike (entry (editing (by_pointer (cited P.Inx.PtrInx.number P.index P.mark p)) v) (of_found result)) (S.list self.old.m) (S.list self.new.m) }
-        ensures kept { S.config self.new.m ≡ S.config self.old.m }
-        ensures stands { Kept S.sound S.list P.Inx.PtrInx.largest self.new }
+        ensures answer { of_found result ≡ edit_answer v (found P.Gen.eq (cited P.Inx.number P.index P.mark p) (S.list self.old)) }
+        ensures step { Step P.Gen.eq (entry (editing (by_pointer (cited P.Inx.number P.index P.mark p)) v) (of_found result)) (S.list self.old) (S.list self.new) }
+        ensures kept { S.config self.new ≡ S.config self.old }
     {
-        match self.find(p) {
-            Some(found) => {
-                overwrite(
-                    &mut self.m,
-                    found.slot,
-                    DirectSlot::Allocated(found.generation, v),
-                );
-                Some(v)
-            }
-            None => None,
-        }
+        let found = self.find(p)?;
+        overwrite(
+            &mut self.m,
+            found.slot,
+            DirectSlot::Allocated(found.generation, v),
+        );
+        Some(v)
     }
 
     /// The same by index: the generation is not asked for, and comes with the value.
     pub fn edit_inx(&mut self, inx: P::Inx, v: V) -> Option<(P::Gen, V)>
-        requires { Kept S.sound S.list P.Inx.PtrInx.largest self.old }
-        ensures answer { of_found result ≡ edit_pair_answer v (named (or_zero (P.Inx.PtrInx.number inx)) (S.list self.old.m)) }
-        ensures step { Step P.Gen.PtrGen.alike (entry (editing (by_index (or_zero (P.Inx.PtrInx.number inx))) v) (of_found result)) (S.list self.old.m) (S.list self.new.m) }
-        ensures kept { S.config self.new.m ≡ S.config self.old.m }
-        ensures stands { Kept S.sound S.list P.Inx.PtrInx.largest self.new }
+        ensures answer { of_found result ≡ edit_pair_answer v (named (or_zero (P.Inx.number inx)) (S.list self.old)) }
+        ensures step { Step P.Gen.eq (entry (editing (by_index (or_zero (P.Inx.number inx))) v) (of_found result)) (S.list self.old) (S.list self.new) }
+        ensures kept { S.config self.new ≡ S.config self.old }
     {
-        match self.find_inx(inx) {
-            Some(found) => {
-                overwrite(
-                    &mut self.m,
-                    found.slot,
-                    DirectSlot::Allocated(found.generation, v),
-                );
-                Some((found.generation, v))
-            }
-            None => None,
-        }
+        let found = self.find_inx(inx)?;
+        overwrite(
+            &mut self.m,
+            found.slot,
+            DirectSlot::Allocated(found.generation, v),
+        );
+        Some((found.generation, v))
     }
 
     /// Takes out the record that `p` cites, and answers its value. Its slot stays, free.
     pub fn remove(&mut self, p: P) -> InvalidationResult<V>
-        requires { Kept S.sound S.list P.Inx.PtrInx.largest self.old }
-        ensures answer { of_invalidation result ≡ value_answer (found P.Gen.PtrGen.alike (cited P.Inx.PtrInx.number P.index P.mark p) (S.list self.old.m)) }
-        ensures step { Step P.Gen.PtrGen.alike (entry (removal (by_pointer (cited P.Inx.PtrInx.number P.index P.mark p))) (of_invalidation result)) (S.list self.old.m) (S.list self.new.m) }
-        ensures kept { S.config self.new.m ≡ S.config self.old.m }
-        ensures stands { Kept S.sound S.list P.Inx.PtrInx.largest self.new }
+        ensures answer { of_invalidation result ≡ value_answer (found P.Gen.eq (cited P.Inx.number P.index P.mark p) (S.list self.old)) }
+        ensures step { Step P.Gen.eq (entry (removal (by_pointer (cited P.Inx.number P.index P.mark p))) (of_invalidation result)) (S.list self.old) (S.list self.new) }
+        ensures kept { S.config self.new ≡ S.config self.old }
     {
-        match self.find(p) {
-            Some(found) => {
-                overwrite(&mut self.m, found.slot, DirectSlot::Free);
-                self.len -= 1;
-                InvalidationResult::Success(found.value)
-            }
-            None => InvalidationResult::InvalidPtr,
-        }
+        let Some(found) = self.find(p) else {
+            return InvalidationResult::InvalidPtr;
+        };
+        overwrite(&mut self.m, found.slot, DirectSlot::Free);
+        self.len -= 1;
+        InvalidationResult::Success(found.value)
     }
 
     /// The same by index: the generation is not asked for, and comes with the value.
     pub fn remove_inx(&mut self, inx: P::Inx) -> InvalidationResult<(P::Gen, V)>
-        requires { Kept S.sound S.list P.Inx.PtrInx.largest self.old }
-        ensures answer { of_invalidation result ≡ pair_answer (named (or_zero (P.Inx.PtrInx.number inx)) (S.list self.old.m)) }
-        ensures step { Step P.Gen.PtrGen.alike (entry (removal (by_index (or_zero (P.Inx.PtrInx.number inx)))) (of_invalidation result)) (S.list self.old.m) (S.list self.new.m) }
-        ensures kept { S.config self.new.m ≡ S.config self.old.m }
-        ensures stands { Kept S.sound S.list P.Inx.PtrInx.largest self.new }
+        ensures answer { of_invalidation result ≡ pair_answer (named (or_zero (P.Inx.number inx)) (S.list self.old)) }
+        ensures step { Step P.Gen.eq (entry (removal (by_index (or_zero (P.Inx.number inx)))) (of_invalidation result)) (S.list self.old) (S.list self.new) }
+        ensures kept { S.config self.new ≡ S.config self.old }
     {
-        match self.find_inx(inx) {
-            Some(found) => {
-                overwrite(&mut self.m, found.slot, DirectSlot::Free);
-                self.len -= 1;
-                InvalidationResult::Success((found.generation, found.value))
-            }
-            None => InvalidationResult::InvalidPtr,
-        }
+        let Some(found) = self.find_inx(inx) else {
+            return InvalidationResult::InvalidPtr;
+        };
+        overwrite(&mut self.m, found.slot, DirectSlot::Free);
+        self.len -= 1;
+        InvalidationResult::Success((found.generation, found.value))
     }
 }

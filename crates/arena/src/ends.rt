@@ -1,6 +1,5 @@
 ghost use Rattle.std.specs.Prelude.{◌≡◌, ◌≤◌, not, is_some, ◌==◌};
 ghost use Rattle.history.specs.Slots.{count, held};
-ghost use Rattle.arena.specs.Kept.{Kept};
 ghost use Rattle.slots.specs.Records.{first_of, last_of};
 ghost use Rattle.arena.specs.Answers.{pointer_of};
 
@@ -12,37 +11,32 @@ use stack::NonZeroInxGenericStack;
 // The pointer of a slot's number and a generation.
 fn point<P: Ptr>(n: usize, generation: P::Gen) -> P
     requires low { 1 ≤ n }
-    requires high { n ≤ P.Inx.PtrInx.largest }
-    ensures { result ≡ P.made (P.Inx.PtrInx.indexed n) generation }
+    requires high { n ≤ P.Inx.largest }
+    ensures { result ≡ P.made (P.Inx.indexed n) generation }
 {
-    match P::Inx::try_from_usize(n) {
-        Some(inx) => P::from_raw(inx, generation),
-        None => unreachable(),
-    }
+    P::from_raw(P::Inx::try_from_usize(n).unwrap(), generation)
 }
 
-impl<P: Ptr, V: Copy, S: NonZeroInxGenericStack<DirectSlot<P::Gen, V>>> DirectArena<P, V, S> {
+impl<P: Ptr, V: Copy, S: NonZeroInxGenericStack<Slot = DirectSlot<P::Gen, V>>> DirectArena<
+    P,
+    V,
+    S,
+> {
     /// The pointer of the record in the lowest slot; none where no record stands.
     pub fn find_first_inx_ptr(&self) -> Option<P>
-        requires { Kept S.sound S.list P.Inx.PtrInx.largest self.now }
-        ensures pointer { result ≡ pointer_of (λ n γ. P.made (P.Inx.PtrInx.indexed n) γ) (first_of (held 1 (S.list self.now.m))) }
-        ensures absent { is_some result ≡ not (count (S.list self.now.m) == 0) }
+        ensures pointer { result ≡ pointer_of (λ n γ. P.made (P.Inx.indexed n) γ) (first_of (held 1 (S.list self.now))) }
+        ensures absent { is_some result ≡ not (count (S.list self.now) == 0) }
     {
-        match first_record(&self.m) {
-            Some(found) => Some(point(found.slot, found.generation)),
-            None => None,
-        }
+        let found = first_record(&self.m)?;
+        Some(point(found.slot, found.generation))
     }
 
     /// The pointer of the record in the highest slot; none where no record stands.
     pub fn find_last_inx_ptr(&self) -> Option<P>
-        requires { Kept S.sound S.list P.Inx.PtrInx.largest self.now }
-        ensures pointer { result ≡ pointer_of (λ n γ. P.made (P.Inx.PtrInx.indexed n) γ) (last_of (held 1 (S.list self.now.m))) }
-        ensures absent { is_some result ≡ not (count (S.list self.now.m) == 0) }
+        ensures pointer { result ≡ pointer_of (λ n γ. P.made (P.Inx.indexed n) γ) (last_of (held 1 (S.list self.now))) }
+        ensures absent { is_some result ≡ not (count (S.list self.now) == 0) }
     {
-        match last_record(&self.m) {
-            Some(found) => Some(point(found.slot, found.generation)),
-            None => None,
-        }
+        let found = last_record(&self.m)?;
+        Some(point(found.slot, found.generation))
     }
 }

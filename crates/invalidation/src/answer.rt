@@ -27,8 +27,7 @@ impl<T> InvalidationOption<T> {
         ensures { result ≡ value self }
     {
         match self {
-            InvalidationOption::Success(t) => t,
-            InvalidationOption::GenerationOverflow(t) => t,
+            InvalidationOption::Success(t) | InvalidationOption::GenerationOverflow(t) => t,
         }
     }
 
@@ -87,8 +86,7 @@ impl<T> InvalidationResult<T> {
         ensures { result ≡ value_in self }
     {
         match self {
-            InvalidationResult::Success(t) => Some(t),
-            InvalidationResult::GenerationOverflow(t) => Some(t),
+            InvalidationResult::Success(t) | InvalidationResult::GenerationOverflow(t) => Some(t),
             InvalidationResult::InvalidPtr => None,
         }
     }
@@ -123,7 +121,7 @@ impl<T> InvalidationResult<T> {
         match self {
             InvalidationResult::Success(t) => InvalidationOption::Success(t),
             InvalidationResult::GenerationOverflow(t) => InvalidationOption::GenerationOverflow(t),
-            InvalidationResult::InvalidPtr => unreachable(),
+            InvalidationResult::InvalidPtr => unreachable!(),
         }
     }
 }

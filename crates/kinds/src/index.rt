@@ -4,7 +4,7 @@ ghost use Rattle.std.proofs.Common.{rules};
 use crate::ptr::PtrInx;
 
 /// 16 bits: numbers 1 to 65,535; 0 does not convert.
-#[derive(Clone, Copy)]
+#[derive(Clone, Copy, Debug, PartialEq, Eq)]
 pub struct ShortInx {
     pub raw: u16,
 }
@@ -27,32 +27,35 @@ impl PtrInx for ShortInx {
     ghost high = { Prim.search rules };
 
     fn max_index() -> usize {
-        65_535
+        usize::from(u16::MAX)
     }
 
     fn try_into_usize(self) -> Option<usize> {
-        if self.raw == 0 {
-            None
-        } else {
-            Some(self.raw as usize)
-        }
+        (self.raw != 0).then_some(usize::from(self.raw))
     }
 
     fn try_from_usize(n: usize) -> Option<ShortInx> {
-        if 1 <= n && n <= 65_535 {
-            Some(ShortInx { raw: n as u16 })
-        } else {
-            None
+        match u16::try_from(n) {
+            Ok(raw) if raw != 0 => Some(ShortInx { raw }),
+            _ => None,
         }
     }
 }
 
 /// A sheet of a register book and a line on it: sheets 0 to 39, lines 1 to 200, numbered sheet by sheet. Other pairs
 /// do not convert.
-#[derive(Clone, Copy)]
+#[derive(Clone, Copy, Debug, PartialEq, Eq)]
 pub struct SheetInx {
     pub sheet: u16,
     pub line: u16,
+}
+
+impl SheetInx {
+    /// The sheets of a book.
+    pub const SHEETS: u16 = 40;
+
+    /// The lines of a sheet.
+    pub const LINES: u16 = 200;
 }
 
 impl PtrInx for SheetInx {
@@ -73,26 +76,22 @@ impl PtrInx for SheetInx {
     ghost high = { Prim.search rules };
 
     fn max_index() -> usize {
-        8_000
+        usize::from(Self::SHEETS) * usize::from(Self::LINES)
     }
 
     fn try_into_usize(self) -> Option<usize> {
-        if self.sheet < 40 && 1 <= self.line && self.line <= 200 {
-            Some(200 * (self.sheet as usize) + self.line as usize)
-        } else {
-            None
-        }
+        let converts = self.sheet < Self::SHEETS && (1..=Self::LINES).contains(&self.line);
+        converts.then_some(
+            usize::from(Self::LINES) * usize::from(self.sheet) + usize::from(self.line),
+        )
     }
 
     fn try_from_usize(n: usize) -> Option<SheetInx> {
-        if 1 <= n && n <= 8_000 {
-            let before = n - 1;
-            Some(SheetInx {
-                sheet: (before / 200) as u16,
-                line: (before % 200 + 1) as u16,
-            })
-        } else {
-            None
-        }
+        let before = u16::try_from(n.checked_sub(1)?).ok()?;
+        let sheet = before / Self::LINES;
+        (sheet < Self::SHEETS).then_some(SheetInx {
+            sheet,
+            line: before % Self::LINES + 1,
+        })
     }
 }

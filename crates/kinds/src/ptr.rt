@@ -32,16 +32,9 @@ pub trait PtrInx: Copy {
     ghost high: { (n : ℕ) (i : Self) → number i ≡ Some n → n ≤ largest };
 }
 
-/// A generation kind compares two generations: they match exactly when they are the same.
-pub trait PtrGen: Copy {
-    ghost alike: { Self → Self → Bool };
-
-    fn matches(self, other: Self) -> bool
-        ensures { result ≡ alike self other };
-
-    ghost same: { (a b : Self) → alike a b ≡ true → a ≡ b };
-
-    ghost itself: { (a : Self) → alike a a ≡ true };
+/// A generation kind: generations are equal exactly when they are the same.
+pub trait PtrGen: Copy + Eq {
+    ghost same: { (a b : Self) → Self.eq a b ≡ true → a ≡ b };
 }
 
 /// A pointer kind names its index kind and its generation kind; a pointer is one of each, and nothing more.

@@ -1,27 +1,22 @@
-ghost use Rattle.std.specs.Prelude.{◌≡◌, ℕ, min, [], Some};
-ghost use Rattle.limited.specs.Limited.{lower, LimitedSound, LimitedRegrown, LimitedRelimited};
-ghost use Rattle.limited.specs.LimitedLaws.{limited_laws};
+ghost use Rattle.std.specs.Prelude.{◌≡◌, ℕ, ◌≤◌, min, [], length, Some};
 
 use outcome::{MaxCapacityReductionError, NotWithinCapacityError, ReallocationError};
 use stack::{NonZeroInxGenericStack, SetMaxCapacity};
 
 /// Any stack, under a limit.
 #[derive(Drop)]
-pub struct LimitedStack<S> {
+pub struct LimitedStack<S: NonZeroInxGenericStack> {
     pub(crate) below: S,
     pub(crate) limit: usize,
+    ghost within: { length (S.list below) ≤ limit },
 }
 
-impl<S> LimitedStack<S> {
+impl<S: NonZeroInxGenericStack> LimitedStack<S> {
     /// The stack below, emptied; the limit is at first its capacity.
-    pub fn new<U: Copy>(below: S) -> LimitedStack<S>
-    where
-        S: NonZeroInxGenericStack<U>,
-        requires { S.sound below }
+    pub fn new(below: S) -> Self
         ensures slots { S.list result.below ≡ [] }
         ensures kept { S.config result.below ≡ S.config below }
         ensures limit { result.limit ≡ S.room (S.config below) }
-        ensures stands { LimitedSound S.sound S.list result }
     {
         let mut below = below;
         below.clear();
@@ -33,67 +28,63 @@ impl<S> LimitedStack<S> {
     pub fn into_inner(self) -> S
         ensures { result ≡ self.below }
     {
-        let LimitedStack { below, limit: _ } = self;
-        below
+        self.below
     }
 }
 
-impl<U: Copy, S: NonZeroInxGenericStack<U>> NonZeroInxGenericStack<U> for LimitedStack<S> {
-    ghost Config = { S.NonZeroInxGenericStack.Config × ℕ };
+impl<S: NonZeroInxGenericStack> NonZeroInxGenericStack for LimitedStack<S> {
+    type Slot = S::Slot;
 
-    ghost list = { λ s. S.NonZeroInxGenericStack.list s.below };
+    ghost use Rattle.limited.specs.Limited.{lower, LimitedRegrown};
+    ghost use Rattle.limited.specs.LimitedLaws.{limited_laws};
 
-    ghost config = { λ s. (S.NonZeroInxGenericStack.config s.below, s.limit) };
+    ghost Config = { S.Config × ℕ };
 
-    ghost room = { λ c. min c.1 (S.NonZeroInxGenericStack.room c.0) };
+    ghost list = { λ s. S.list s.below };
 
-    ghost limit = { λ c. Some (lower c.1 (S.NonZeroInxGenericStack.limit c.0)) };
+    ghost config = { λ s. (S.config s.below, s.limit) };
 
-    ghost sound = { LimitedSound S.NonZeroInxGenericStack.sound S.NonZeroInxGenericStack.list };
+    ghost room = { λ c. min c.1 (S.room c.0) };
 
-    ghost regrown = { LimitedRegrown S.NonZeroInxGenericStack.limit S.NonZeroInxGenericStack.regrown };
+    ghost limit = { λ c. Some (lower c.1 (S.limit c.0)) };
 
-    ghost laws = { limited_laws S.NonZeroInxGenericStack.laws };
+    ghost regrown = { LimitedRegrown S.NonZeroInxGenericStack };
+
+    ghost laws = { limited_laws S.NonZeroInxGenericStack };
 
     fn capacity(&self) -> usize {
-        let room = self.below.capacity();
-        if self.limit < room { self.limit } else { room }
+        self.below.capacity().min(self.limit)
     }
 
     fn max_capacity(&self) -> Option<usize> {
-        match self.below.max_capacity() {
-            Some(most) => {
-                if self.limit < most {
-                    Some(self.limit)
-                } else {
-                    Some(most)
-                }
-            }
-            None => Some(self.limit),
-        }
+        let limit = self.limit;
+        Some(
+            self.below
+                .max_capacity()
+                .map_or(limit, |most| most.min(limit)),
+        )
     }
 
     fn len(&self) -> usize {
         self.below.len()
     }
 
-    fn get(&self, n: usize) -> Option<U> {
+    fn get(&self, n: usize) -> Option<S::Slot> {
         self.below.get(n)
     }
 
-    fn replace(&mut self, n: usize, u: U) -> Option<U> {
+    fn replace(&mut self, n: usize, u: S::Slot) -> Option<S::Slot> {
         self.below.replace(n, u)
     }
 
-    fn push_within_capacity(&mut self, u: U) -> Result<(), NotWithinCapacityError> {
-        if self.below.len() < self.limit {
-            self.below.push_within_capacity(u)
-        } else {
-            Err(NotWithinCapacityError)
+    fn push_within_capacity(&mut self, u: S::Slot) -> Result<(), NotWithinCapacityError> {
+        if self.below.len() >= self.limit {
+            return Err(NotWithinCapacityError);
         }
+        self.below.push_within_capacity(u)
     }
 
-    fn pop(&mut self) -> Option<U> {
+    fn pop(&mut self) -> Option<S::Slot> {
         self.below.pop()
     }
 
@@ -102,24 +93,23 @@ impl<U: Copy, S: NonZeroInxGenericStack<U>> NonZeroInxGenericStack<U> for Limite
     }
 
     fn reallocate_min_capacity(&mut self, r: usize) -> Result<(), ReallocationError> {
-        if let Some(most) = self.max_capacity() {
-            if r > most {
-                return Err(ReallocationError::BeyondMaxCapacity);
-            }
+        if self.max_capacity().is_some_and(|most| r > most) {
+            return Err(ReallocationError::BeyondMaxCapacity);
         }
         self.below.reallocate_min_capacity(r)
     }
 }
 
-impl<U: Copy, S: NonZeroInxGenericStack<U>> SetMaxCapacity<U> for LimitedStack<S> {
-    ghost relimited = { LimitedRelimited S.NonZeroInxGenericStack.list S.NonZeroInxGenericStack.config };
+impl<S: NonZeroInxGenericStack> SetMaxCapacity for LimitedStack<S> {
+    ghost use Rattle.limited.specs.Limited.{LimitedRelimited};
+
+    ghost relimited = { LimitedRelimited S.NonZeroInxGenericStack };
 
     fn set_max_capacity(&mut self, limit: usize) -> Result<(), MaxCapacityReductionError> {
         if limit < self.below.len() {
-            Err(MaxCapacityReductionError)
-        } else {
-            self.limit = limit;
-            Ok(())
+            return Err(MaxCapacityReductionError);
         }
+        self.limit = limit;
+        Ok(())
     }
 }

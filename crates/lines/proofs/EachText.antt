@@ -1,25 +1,25 @@
 -- The text of a call in range asks for it.
-use Rattle.std.proofs.Common.{◌≡◌, ℕ, ◌+◌, ◌^◌, ◌<◌, ◌≤◌, Bool, true, false, eqb, List, [], ◌∷◌, ◌++◌, length, Some, decimal, sym, refl, ap, ◌∙◌, subst, arith, length-append}
+use Rattle.std.proofs.Common.{◌≡◌, ℕ, ◌+◌, ◌^◌, ◌<◌, ◌≤◌, Bool, true, false, eqb, List, [], ◌∷◌, ◌++◌, length, Some, None, Ok, Result, decimal, sym, refl, ap, ◌∙◌, subst, arith, length-append}
 use Rattle.std.specs.Char.{is_ascii_digit}
+use Rattle.std.specs.Option.{ok_or}
 use Rattle.std.specs.Str.{bytes_eq, all_ascii_digits}
 use Rattle.std.proofs.lemmas.Fmt.{digits_decimal, length-decimal-le}
 use Rattle.std.proofs.lemmas.Slice.Eq.{bytes_eq-Decides}
 use Rattle.std.proofs.lemmas.Bool.{cond-false, ne_eqb, and_parts, false≢true, le-ltb}
-use Rattle.lines.specs.Call.{wants_pointer, wants_value, call_at, asked}
-use Rattle.lines.specs.Meaning.{or_unfit, with_verb, with_fields, meaning}
+use Rattle.lines.specs.Call.{Field, wants_pointer, wants_value, call_at, asked}
+use Rattle.lines.specs.Meaning.{with_verb, with_fields, meaning}
 use Rattle.text.specs.Number.{numeral, number_or, field_of}
 use Rattle.text.specs.Split.{Four, onto, split, four_of}
 use Rattle.lines.specs.Texts.{row, blank, call_text, InRange}
-use Rattle.lines.specs.Verb.{name_of, verb_of}
+use Rattle.lines.specs.Verb.{name_of}
 use Rattle.lines.specs.declared.call.Call.{Call}
 use Rattle.lines.specs.declared.call.Call.TheVariants as call
-use Rattle.text.specs.declared.number.Field.{Field}
-use Rattle.text.specs.declared.number.Field.TheVariants.{Number, Blank}
-use Rattle.lines.specs.declared.parse.Parsed.{Parsed}
-use Rattle.lines.specs.declared.parse.Parsed.TheVariants.{Asks}
+use Rattle.lines.specs.declared.error.LineError.{LineError}
+use Rattle.lines.specs.declared.error.LineError.TheVariants.{Unfit}
 use Rattle.lines.specs.declared.verb.Verb.{Verb}
 use Rattle.lines.specs.declared.verb.Verb.TheVariants.{Insert, Edit, Get, Remove, Trim, Reserve, Limit, Clear}
 use Rattle.text.proofs.Exact.{own, never, numeral_reads, all_decimals}
+use Rattle.lines.proofs.Names.{verb_named}
 use Rattle.lines.proofs.OneText.{shown_if}
 
 -- no space among the bytes
@@ -73,19 +73,9 @@ length_name Reserve = omega arith
 length_name Limit = omega arith
 length_name Clear = omega arith
 
-verb_named_lem : (v : Verb) → verb_of (name_of v) ≡ Some v
-verb_named_lem Insert = refl
-verb_named_lem Edit = refl
-verb_named_lem Get = refl
-verb_named_lem Remove = refl
-verb_named_lem Trim = refl
-verb_named_lem Reserve = refl
-verb_named_lem Limit = refl
-verb_named_lem Clear = refl
-
 abbrev given : Bool → ℕ → Field
-given true n = Number n
-given false n = Blank
+given true n = Ok (Some n)
+given false n = Ok None
 
 not_blank : (n : ℕ) → n < 2 ^ 64 → bytes_eq (decimal n) blank ≡ false
 not_blank n h = go (bytes_eq (decimal n) blank) refl
@@ -114,7 +104,7 @@ length_row a b c d = omega (arith, length-append a (32 ∷ (b ++ (32 ∷ (c ++ (
 abbrev text : Verb → ℕ → ℕ → ℕ → List ℕ
 text verb s g v = row (name_of verb) (shown_if (wants_pointer verb) s) (shown_if (wants_pointer verb) g) (shown_if (wants_value verb) v)
 
-back : (verb : Verb) (s g v : ℕ) → s ≤ 65535 → g ≤ 4294967295 → v ≤ 4294967295 → meaning (text verb s g v) ≡ Asks (call_at verb s g v)
+back : (verb : Verb) (s g v : ℕ) → s ≤ 65535 → g ≤ 4294967295 → v ≤ 4294967295 → meaning (text verb s g v) ≡ Ok (call_at verb s g v)
 back verb s g v p q r =
     let a = shown_if (wants_pointer verb) s in
     let b = shown_if (wants_pointer verb) g in
@@ -124,11 +114,11 @@ back verb s g v p q r =
     let f : Four = record { call = name_of verb; slot = a; generation = b; value = d } in
     cond-false _ _ _ (le-ltb 80 (length (text verb s g v)) short)
     ∙ ap (λ ps. with_fields (four_of ps)) parts
-    ∙ ap (λ o. with_verb o f) (verb_named_lem verb)
-    ∙ (λ i. or_unfit (asked verb (field_given (wants_pointer verb) 65535 s (omega arith) p i) (field_given (wants_pointer verb) 4294967295 g (omega arith) q i) (field_given (wants_value verb) 4294967295 v (omega arith) r i)))
-    ∙ ap or_unfit (asked_given verb s g v)
+    ∙ ap (λ o. with_verb o f) (verb_named verb)
+    ∙ (λ i. ok_or (asked verb (field_given (wants_pointer verb) 65535 s (omega arith) p i) (field_given (wants_pointer verb) 4294967295 g (omega arith) q i) (field_given (wants_value verb) 4294967295 v (omega arith) r i)) Unfit)
+    ∙ ap (λ o. ok_or o Unfit) (asked_given verb s g v)
 
-each_text : (c : Call) → InRange c → meaning (call_text c) ≡ Asks c
+each_text : (c : Call) → InRange c → meaning (call_text c) ≡ Ok c
 each_text (call.Insert s g v) h = back Insert s g v h.0 h.1 h.2
 each_text (call.Edit s g v) h = back Edit s g v h.0 h.1 h.2
 each_text (call.Get s g) h = back Get s g 0 h.0 h.1 (omega arith)
@@ -138,5 +128,5 @@ each_text (call.Reserve n) h = back Reserve 0 0 n (omega arith) (omega arith) h
 each_text (call.Limit n) h = back Limit 0 0 n (omega arith) (omega arith) h
 each_text call.Clear h = back Clear 0 0 0 (omega arith) (omega arith) (omega arith)
 
-pub each_asks : {line : List ℕ} {r : Parsed} → r ≡ meaning line → (c : Call) → InRange c → line ≡ call_text c → r ≡ Asks c
+pub each_asks : {line : List ℕ} {r : Result Call LineError} → r ≡ meaning line → (c : Call) → InRange c → line ≡ call_text c → r ≡ Ok c
 each_asks is c h e = is ∙ ap meaning e ∙ each_text c h

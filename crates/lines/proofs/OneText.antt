@@ -1,19 +1,18 @@
 -- A line that asks for a call is the call's text, and the call is in range.
-use Rattle.std.proofs.Common.{◌≡◌, ℕ, ◌^◌, ◌<◌, ◌≤◌, Bool, true, false, cond, ◌&&◌, eqb, ltb, List, [], ◌∷◌, ◌++◌, length, Some, None, decimal, Option, sym, refl, ap, ◌∙◌, subst, arith}
+use Rattle.std.proofs.Common.{◌≡◌, ℕ, ◌^◌, ◌<◌, ◌≤◌, Bool, true, false, cond, ◌&&◌, eqb, ltb, List, [], ◌∷◌, ◌++◌, length, Some, None, Ok, Err, decimal, Option, Result, sym, refl, ap, ◌∙◌, subst, arith}
+use Rattle.std.specs.Option.{ok_or}
 use Rattle.std.specs.Str.{bytes_eq}
 use Rattle.std.proofs.lemmas.Slice.Eq.{bytes_eq-Decides}
 use Rattle.std.proofs.lemmas.Bool.{eqb-true, and_parts, false≢true}
-use Rattle.lines.specs.Call.{wants_pointer, wants_value, fits, number_in, call_at, asked}
-use Rattle.lines.specs.Meaning.{or_unfit, with_verb, with_fields, meaning}
+use Rattle.lines.specs.Call.{Field, wants_pointer, wants_value, fits, number_in, call_at, asked}
+use Rattle.lines.specs.Meaning.{with_verb, with_fields, meaning}
 use Rattle.text.specs.Number.{numeral, within, number_or, field_of}
 use Rattle.text.specs.Split.{Four, onto, split, four_of}
 use Rattle.lines.specs.Texts.{row, blank, call_text, InRange}
 use Rattle.lines.specs.Verb.{name_of, verbs, named, verb_of}
 use Rattle.lines.specs.declared.call.Call.{Call}
-use Rattle.text.specs.declared.number.Field.{Field}
-use Rattle.text.specs.declared.number.Field.TheVariants.{Blank}
-use Rattle.lines.specs.declared.parse.Parsed.{Parsed}
-use Rattle.lines.specs.declared.parse.Parsed.TheVariants.{Asks, Unknown, Unfit}
+use Rattle.lines.specs.declared.error.LineError.{LineError}
+use Rattle.lines.specs.declared.error.LineError.TheVariants.{Unknown, Unfit}
 use Rattle.lines.specs.declared.verb.Verb.{Verb}
 use Rattle.lines.specs.declared.verb.Verb.TheVariants.{Insert, Edit, Get, Remove, Trim, Reserve, Limit, Clear}
 use Rattle.text.proofs.Exact.{never, only_decimals}
@@ -65,7 +64,7 @@ shown_if false n = blank
 field_text : (want : Bool) (most : ℕ) (bs : List ℕ) → most < 2 ^ 32 → fits want (field_of most bs) ≡ true → (number_in (field_of most bs) ≤ most) × (bs ≡ shown_if want (number_in (field_of most bs)))
 field_text want most bs h e = go want (bytes_eq bs blank) (within most (numeral bs)) refl refl e
   where
-    go : (w t : Bool) (o : Option ℕ) → bytes_eq bs blank ≡ t → within most (numeral bs) ≡ o → fits w (cond t Blank (number_or o)) ≡ true → (number_in (cond t Blank (number_or o)) ≤ most) × (bs ≡ shown_if w (number_in (cond t Blank (number_or o))))
+    go : (w t : Bool) (o : Option ℕ) → bytes_eq bs blank ≡ t → within most (numeral bs) ≡ o → fits w (cond t (Ok None) (number_or o)) ≡ true → (number_in (cond t (Ok None) (number_or o)) ≤ most) × (bs ≡ shown_if w (number_in (cond t (Ok None) (number_or o))))
     go true true o s r f = absurd (false≢true f)
     go true false (Some n) s r f = only_decimals most n bs h r
     go true false None s r f = absurd (false≢true f)
@@ -112,32 +111,29 @@ fields_text f verb c n e =
     let d = field_text (wants_value verb) 4294967295 f.value (omega arith) p.2 in
     (subst InRange p.3 (call_range verb _ _ _ a.0 b.0 d.0), (λ i. row (n i) (a.1 i) (b.1 i) (d.1 i)) ∙ sym (call_text_lem verb _ _ _) ∙ ap call_text p.3)
 
-asks_unknown : (c : Call) → Unknown ≡ Asks c → ⊥
-asks_unknown c e = let z : ◌≡◌ {A = ℕ} 0 1 = cc in omega arith
+err_ok : {X : Type 0} (l : LineError) (x : X) → ◌≡◌ {A = Result X LineError} (Err l) (Ok x) → ⊥
+err_ok l x e = cc
 
-asks_unfit : (c : Call) → Unfit ≡ Asks c → ⊥
-asks_unfit c e = let z : ◌≡◌ {A = ℕ} 0 1 = cc in omega arith
-
-unfit_back : (o : Option Call) (c : Call) → or_unfit o ≡ Asks c → o ≡ Some c
+unfit_back : (o : Option Call) (c : Call) → ok_or o Unfit ≡ Ok c → o ≡ Some c
 unfit_back (Some d) c e = let same : d ≡ c = cc in ap Some same
-unfit_back None c e = absurd (asks_unfit c e)
+unfit_back None c e = absurd (err_ok Unfit c e)
 
-with_verb_lem : (f : Four) (o : Option Verb) (c : Call) → verb_of f.call ≡ o → with_verb o f ≡ Asks c → Only (row_of f) c
+with_verb_lem : (f : Four) (o : Option Verb) (c : Call) → verb_of f.call ≡ o → with_verb o f ≡ Ok c → Only (row_of f) c
 with_verb_lem f (Some verb) c n e = fields_text f verb c (verb_name f.call verbs verb n) (unfit_back _ c e)
-with_verb_lem f None c n e = absurd (asks_unknown c e)
+with_verb_lem f None c n e = absurd (err_ok Unknown c e)
 
-with_fields_lem : (line : List ℕ) (o : Option Four) (c : Call) → four_of (split 32 line) ≡ o → with_fields o ≡ Asks c → Only line c
+with_fields_lem : (line : List ℕ) (o : Option Four) (c : Call) → four_of (split 32 line) ≡ o → with_fields o ≡ Ok c → Only line c
 with_fields_lem line (Some f) c h e =
     let p = with_verb_lem f (verb_of f.call) c refl e in
     (p.0, sym (join_split 32 line) ∙ four_row (split 32 line) f h ∙ p.1)
-with_fields_lem line None c h e = absurd (asks_unknown c e)
+with_fields_lem line None c h e = absurd (err_ok Unknown c e)
 
-one_text : (line : List ℕ) (c : Call) → meaning line ≡ Asks c → Only line c
+one_text : (line : List ℕ) (c : Call) → meaning line ≡ Ok c → Only line c
 one_text line c e = go (ltb 80 (length line)) e
   where
-    go : (t : Bool) → cond t Unknown (with_fields (four_of (split 32 line))) ≡ Asks c → Only line c
-    go true h = absurd (asks_unknown c h)
+    go : (t : Bool) → cond t (Err Unknown) (with_fields (four_of (split 32 line))) ≡ Ok c → Only line c
+    go true h = absurd (err_ok Unknown c h)
     go false h = with_fields_lem line (four_of (split 32 line)) c refl h
 
-pub only_asks : {line : List ℕ} {r : Parsed} → r ≡ meaning line → (c : Call) → r ≡ Asks c → Only line c
+pub only_asks : {line : List ℕ} {r : Result Call LineError} → r ≡ meaning line → (c : Call) → r ≡ Ok c → Only line c
 only_asks is c e = one_text _ c (sym is ∙ e)

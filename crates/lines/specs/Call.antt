@@ -1,9 +1,8 @@
 -- Which fields a call wants, and the call that a line asks for.
-use Rattle.std.specs.Prelude.{ℕ, Bool, true, false, cond, ◌&&◌, Some, None, Option}
+use Rattle.std.specs.Prelude.{ℕ, Bool, true, false, cond, ◌&&◌, Some, None, Ok, Err, Option, Result}
 use Rattle.lines.specs.declared.call.Call.{Call}
 use Rattle.lines.specs.declared.call.Call.TheVariants as call
-use Rattle.text.specs.declared.number.Field.{Field}
-use Rattle.text.specs.declared.number.Field.TheVariants.{Number, Blank, Wrong}
+use Rattle.text.specs.declared.number.FieldError.{FieldError}
 use Rattle.lines.specs.declared.verb.Verb.{Verb}
 use Rattle.lines.specs.declared.verb.Verb.TheVariants.{Insert, Edit, Get, Remove, Trim, Reserve, Limit, Clear}
 
@@ -28,19 +27,23 @@ wants_value Reserve = true
 wants_value Limit = true
 wants_value Clear = false
 
+-- what a field holds: a number, a blank, or neither
+abbrev pub Field : Type 0
+Field = Result (Option ℕ) FieldError
+
 -- a wanted field is a number, and any other a blank
 abbrev pub fits : Bool → Field → Bool
-fits true (Number n) = true
-fits true Blank = false
-fits true Wrong = false
-fits false (Number n) = false
-fits false Blank = true
-fits false Wrong = false
+fits true (Ok (Some n)) = true
+fits true (Ok None) = false
+fits true (Err e) = false
+fits false (Ok (Some n)) = false
+fits false (Ok None) = true
+fits false (Err e) = false
 
 abbrev pub number_in : Field → ℕ
-number_in (Number n) = n
-number_in Blank = 0
-number_in Wrong = 0
+number_in (Ok (Some n)) = n
+number_in (Ok None) = 0
+number_in (Err e) = 0
 
 -- the call at its numbers; what it does not want is passed over
 abbrev pub call_at : Verb → ℕ → ℕ → ℕ → Call

@@ -1,14 +1,11 @@
 // The calls that a line can ask for.
-ghost use Rattle.std.specs.Prelude.{◌≡◌};
+ghost use Rattle.std.specs.Prelude.{◌≡◌, Ok};
 ghost use Rattle.lines.specs.Call.{asked};
-ghost use Rattle.text.specs.Number.{AtMost};
 
 use crate::verb::Verb;
-use text::number::Field;
-use text::number::Field::{Blank, Number};
 
 /// A call with the fields that it wants, and no others.
-#[derive(Clone, Copy, Drop)]
+#[derive(Clone, Copy, Debug, Drop, PartialEq, Eq)]
 pub enum Call {
     Insert {
         slot: u16,
@@ -40,34 +37,34 @@ pub enum Call {
     Clear,
 }
 
-/// None where a wanted field is no number, or any other is no blank.
-pub fn call_of(verb: Verb, slot: Field, generation: Field, value: Field) -> Option<Call>
-    requires { AtMost 65535 slot }
-    ensures { result ≡ asked verb slot generation value }
+/// None where a wanted field is blank, or any other holds a number.
+pub fn call_of(
+    verb: Verb,
+    slot: Option<u16>,
+    generation: Option<u32>,
+    value: Option<u32>,
+) -> Option<Call>
+    ensures { result ≡ asked verb (Ok slot) (Ok generation) (Ok value) }
 {
     match (verb, slot, generation, value) {
-        (Verb::Insert, Number(slot), Number(generation), Number(value)) => Some(Call::Insert {
-            slot: slot as u16,
+        (Verb::Insert, Some(slot), Some(generation), Some(value)) => Some(Call::Insert {
+            slot,
             generation,
             value,
         }),
-        (Verb::Edit, Number(slot), Number(generation), Number(value)) => Some(Call::Edit {
-            slot: slot as u16,
+        (Verb::Edit, Some(slot), Some(generation), Some(value)) => Some(Call::Edit {
+            slot,
             generation,
             value,
         }),
-        (Verb::Get, Number(slot), Number(generation), Blank) => Some(Call::Get {
-            slot: slot as u16,
-            generation,
-        }),
-        (Verb::Remove, Number(slot), Number(generation), Blank) => Some(Call::Remove {
-            slot: slot as u16,
-            generation,
-        }),
-        (Verb::Trim, Blank, Blank, Number(count)) => Some(Call::Trim { count }),
-        (Verb::Reserve, Blank, Blank, Number(request)) => Some(Call::Reserve { request }),
-        (Verb::Limit, Blank, Blank, Number(limit)) => Some(Call::Limit { limit }),
-        (Verb::Clear, Blank, Blank, Blank) => Some(Call::Clear),
+        (Verb::Get, Some(slot), Some(generation), None) => Some(Call::Get { slot, generation }),
+        (Verb::Remove, Some(slot), Some(generation), None) => {
+            Some(Call::Remove { slot, generation })
+        }
+        (Verb::Trim, None, None, Some(count)) => Some(Call::Trim { count }),
+        (Verb::Reserve, None, None, Some(request)) => Some(Call::Reserve { request }),
+        (Verb::Limit, None, None, Some(limit)) => Some(Call::Limit { limit }),
+        (Verb::Clear, None, None, None) => Some(Call::Clear),
         _ => None,
     }
 }

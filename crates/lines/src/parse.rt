@@ -1,54 +1,48 @@
 // What a line means.
-ghost use Rattle.std.specs.Prelude.{◌≡◌};
-ghost use Rattle.text.specs.Fields.{four_in_some};
-ghost use Rattle.lines.specs.Meaning.{with_fields, meaning};
+ghost use Rattle.std.specs.Prelude.{◌≡◌, Ok};
+ghost use Rattle.text.specs.Fields.{four_in};
+ghost use Rattle.text.specs.Number.{field_of};
+ghost use Rattle.lines.specs.Meaning.{field_or_unfit, with_verb, meaning};
 ghost use Rattle.lines.specs.Texts.{InRange, call_text};
-ghost use Rattle.lines.specs.declared.parse.Parsed.TheVariants.{Asks};
+ghost use Rattle.lines.specs.Verb.{verb_of};
 
 use crate::call::{Call, call_of};
-use crate::verb::verb_named;
+use crate::error::LineError;
+use crate::verb::Verb;
 use text::number::read_field;
 use text::split::{Fields, four_fields};
 
 const LONGEST: usize = 80;
 
-/// `Unknown` is refusal 12, no line of a known call, and `Unfit` refusal 13, a field that is not as its call wants it.
-#[derive(Clone, Copy, Drop)]
-pub enum Parsed {
-    Asks(Call),
-    Unknown,
-    Unfit,
+// Slots have 16 bits.
+fn read_slot(bytes: &[u8]) -> Result<Option<u16>, LineError>
+    ensures { result ≡ field_or_unfit (field_of 65535 bytes.now) }
+{
+    let slot = read_field(bytes, 65535)?;
+    slot.map(u16::try_from)
+        .transpose()
+        .map_err(|_| LineError::Unfit)
 }
 
 // The name is looked at first: an unknown call has no fields to be wrong.
-fn parse_fields(fields: Option<Fields<'_>>) -> Parsed
-    ensures { result ≡ with_fields (four_in_some fields.entry) }
+fn parse_fields(fields: Fields<'_>) -> Result<Call, LineError>
+    ensures { result ≡ with_verb (verb_of fields.entry.call.now) (four_in fields.entry) }
 {
-    let Some(f) = fields else {
-        return Parsed::Unknown;
-    };
-    let Some(verb) = verb_named(f.call) else {
-        return Parsed::Unknown;
-    };
-    match call_of(
-        verb,
-        read_field(f.slot, 65535),
-        read_field(f.generation, u32::MAX),
-        read_field(f.value, u32::MAX),
-    ) {
-        Some(call) => Parsed::Asks(call),
-        None => Parsed::Unfit,
-    }
+    let verb = Verb::try_from(fields.call)?;
+    let slot = read_slot(fields.slot)?;
+    let generation = read_field(fields.generation, u32::MAX)?;
+    let value = read_field(fields.value, u32::MAX)?;
+    call_of(verb, slot, generation, value).ok_or(LineError::Unfit)
 }
 
 /// A line asks for a call only by the call's one text, and that text always does.
-pub fn parse(line: &[u8]) -> Parsed
+pub fn parse(line: &[u8]) -> Result<Call, LineError>
     ensures meaning { result ≡ meaning line.now }
-    ensures only { (c : Call) → result ≡ Asks c → InRange c × (line.now ≡ call_text c) }
-    ensures each { (c : Call) → InRange c → line.now ≡ call_text c → result ≡ Asks c }
+    ensures only { (c : Call) → result ≡ Ok c → InRange c × (line.now ≡ call_text c) }
+    ensures each { (c : Call) → InRange c → line.now ≡ call_text c → result ≡ Ok c }
 {
     if line.len() > LONGEST {
-        return Parsed::Unknown; // no call has so long a text
+        return Err(LineError::Unknown); // no call has so long a text
     }
-    parse_fields(four_fields(line))
+    parse_fields(four_fields(line).ok_or(LineError::Unknown)?)
 }

@@ -1,11 +1,13 @@
 // The names of the calls.
 ghost use Rattle.std.specs.Prelude.{◌≡◌};
+ghost use Rattle.std.specs.Option.{ok_or};
 ghost use Rattle.lines.specs.Verb.{verb_of};
+ghost use Rattle.lines.specs.declared.error.LineError.TheVariants.{Unknown};
 
-use text::word::is_word;
+use crate::error::LineError;
 
 /// A call's name, before its fields are looked at.
-#[derive(Clone, Copy, Drop)]
+#[derive(Clone, Copy, Debug, Drop, PartialEq, Eq)]
 pub enum Verb {
     Insert,
     Edit,
@@ -17,27 +19,22 @@ pub enum Verb {
     Clear,
 }
 
-/// None for a name that no call has.
-pub fn verb_named(name: &[u8]) -> Option<Verb>
-    ensures { result ≡ verb_of name.now }
-{
-    if is_word(name, b"insert") {
-        Some(Verb::Insert)
-    } else if is_word(name, b"edit") {
-        Some(Verb::Edit)
-    } else if is_word(name, b"get") {
-        Some(Verb::Get)
-    } else if is_word(name, b"remove") {
-        Some(Verb::Remove)
-    } else if is_word(name, b"trim") {
-        Some(Verb::Trim)
-    } else if is_word(name, b"reserve") {
-        Some(Verb::Reserve)
-    } else if is_word(name, b"limit") {
-        Some(Verb::Limit)
-    } else if is_word(name, b"clear") {
-        Some(Verb::Clear)
-    } else {
-        None
+impl TryFrom<&[u8]> for Verb {
+    type Error = LineError;
+
+    ghost try_from_gives = { λ name r. r ≡ ok_or (verb_of name.now) Unknown };
+
+    fn try_from(name: &[u8]) -> Result<Self, LineError> {
+        match name {
+            b"insert" => Ok(Verb::Insert),
+            b"edit" => Ok(Verb::Edit),
+            b"get" => Ok(Verb::Get),
+            b"remove" => Ok(Verb::Remove),
+            b"trim" => Ok(Verb::Trim),
+            b"reserve" => Ok(Verb::Reserve),
+            b"limit" => Ok(Verb::Limit),
+            b"clear" => Ok(Verb::Clear),
+            _ => Err(LineError::Unknown),
+        }
     }
 }

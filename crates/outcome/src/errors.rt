@@ -1,35 +1,36 @@
 ghost use Rattle.std.specs.Prelude.{Some};
 ghost use Rattle.outcome.specs.Texts.{within_text, reallocation_text, insertion_text, reduction_text};
 
+use std::error::Error;
 use std::fmt;
 
 /// A push that finds the stack full: refusal 1.
-#[derive(Clone, Copy, Drop)]
+#[derive(Clone, Copy, Debug, PartialEq, Eq)]
 pub struct NotWithinCapacityError;
 
 /// A reallocation beyond the maximum, refusal 6, or one that finds no memory or no index, refusal 7.
-#[derive(Clone, Copy, Drop)]
+#[derive(Clone, Copy, Debug, PartialEq, Eq)]
 pub enum ReallocationError {
     BeyondMaxCapacity,
     AllocError,
 }
 
 /// An insertion beyond the capacity, refusal 1, or at a slot that is taken, refusal 2.
-#[derive(Clone, Copy, Drop)]
+#[derive(Clone, Copy, Debug, PartialEq, Eq)]
 pub enum DirectInsertionError {
     NotWithinCapacity,
     ExistingElementAtIndex,
 }
 
 /// A limit below the slots that are there: refusal 8.
-#[derive(Clone, Copy, Drop)]
+#[derive(Clone, Copy, Debug, PartialEq, Eq)]
 pub struct MaxCapacityReductionError;
 
 impl fmt::Display for NotWithinCapacityError {
     ghost output = { λ _. Some within_text };
 
     fn fmt<W: fmt::Write>(&self, f: &mut fmt::Formatter<W>) -> fmt::Result {
-        write!(f, "an operation would not be within existing capacity")
+        f.write_str("an operation would not be within existing capacity")
     }
 }
 
@@ -37,13 +38,12 @@ impl fmt::Display for ReallocationError {
     ghost output = { λ e. Some (reallocation_text e) };
 
     fn fmt<W: fmt::Write>(&self, f: &mut fmt::Formatter<W>) -> fmt::Result {
-        match self {
-            ReallocationError::BeyondMaxCapacity => write!(
-                f,
+        f.write_str(match self {
+            ReallocationError::BeyondMaxCapacity => {
                 "a max capacity limit prevents growing the capacity"
-            ),
-            ReallocationError::AllocError => write!(f, "a memory reallocation failed"),
-        }
+            }
+            ReallocationError::AllocError => "a memory reallocation failed",
+        })
     }
 }
 
@@ -51,20 +51,14 @@ impl fmt::Display for DirectInsertionError {
     ghost output = { λ e. Some (insertion_text e) };
 
     fn fmt<W: fmt::Write>(&self, f: &mut fmt::Formatter<W>) -> fmt::Result {
-        match self {
+        f.write_str(match self {
             DirectInsertionError::NotWithinCapacity => {
-                write!(
-                    f,
-                    "a direct insertion index points to an internal slot that does not fit within existing capacity"
-                )
+                "a direct insertion index points to an internal slot that does not fit within existing capacity"
             }
             DirectInsertionError::ExistingElementAtIndex => {
-                write!(
-                    f,
-                    "a direct insertion index points to an internal slot where there is already an existing element"
-                )
+                "a direct insertion index points to an internal slot where there is already an existing element"
             }
-        }
+        })
     }
 }
 
@@ -72,9 +66,16 @@ impl fmt::Display for MaxCapacityReductionError {
     ghost output = { λ _. Some reduction_text };
 
     fn fmt<W: fmt::Write>(&self, f: &mut fmt::Formatter<W>) -> fmt::Result {
-        write!(
-            f,
-            "the max capacity limit could not be reduced, because the capacity would also need to be reduced to equal it, and the capacity could not be reduced in this case"
+        f.write_str(
+            "the max capacity limit could not be reduced, because the capacity would also need to be reduced to equal it, and the capacity could not be reduced in this case",
         )
     }
 }
+
+impl Error for NotWithinCapacityError {}
+
+impl Error for ReallocationError {}
+
+impl Error for DirectInsertionError {}
+
+impl Error for MaxCapacityReductionError {}

@@ -3,26 +3,16 @@
 use Rattle.std.specs.Prelude.{[], ℕ, min, length}
 use Rattle.answers.specs.declared.answer.Tally.{Tally}
 use Rattle.arena.specs.Answers.{cited}
-use Rattle.arena.specs.Kept.{Kept}
-use Rattle.arena.specs.declared.arena.DirectArena.{DirectArena}
 use Rattle.history.specs.Slots.{Slots, Ptr, count}
 use Rattle.kinds.specs.Kinds.{short_number}
 use Rattle.kinds.specs.declared.generation.SeasonGen.{SeasonGen}
 use Rattle.kinds.specs.declared.index.ShortInx.{ShortInx}
 use Rattle.kinds.specs.declared.pointer.PtrOf.{PtrOf}
 use Rattle.kinds.specs.declared.slot.DirectSlot.{DirectSlot}
-use Rattle.limited.specs.Limited.{LimitedSound}
 use Rattle.limited.specs.declared.limited.LimitedStack.{LimitedStack}
-use Rattle.slab_stack.specs.Slab.{slab_list, slab_lent, SlabSound}
+use Rattle.slab_stack.specs.Slab.{slab_list, slab_lent}
 use Rattle.stack.specs.Slots.{counted}
 use Rattle.slab_stack.specs.declared.slab.SlabStack.{SlabStack}
-
-abbrev pub Arena : Type 0
-Arena = DirectArena (PtrOf ShortInx SeasonGen) ℕ (LimitedStack (SlabStack (DirectSlot SeasonGen ℕ))) ShortInx SeasonGen
-
--- what a register keeps from its making on
-abbrev pub Ready : Arena → Type 0
-Ready a = Kept (LimitedSound SlabSound slab_list) (λ s. slab_list s.below) 65535 a
 
 -- The slots, the slab's capacity, how many slots are lent to it, and the limit.
 pub record State : Type 0 where
@@ -31,8 +21,8 @@ pub record State : Type 0 where
   pub lent : ℕ
   pub limit : ℕ
 
-abbrev pub state_of : Arena → State
-state_of a = record { slots = slab_list a.m.below; room = a.m.below.room; lent = slab_lent a.m.below; limit = a.m.limit }
+abbrev pub state_of : {N : _} → LimitedStack (SlabStack (DirectSlot SeasonGen ℕ)) (DirectSlot SeasonGen ℕ) N → State
+state_of s = record { slots = slab_list s.below; room = s.below.room; lent = slab_lent s.below; limit = s.limit }
 
 -- a new register over so many lent slots
 abbrev pub opened : ℕ → State

@@ -1,5 +1,5 @@
 ghost use Rattle.std.specs.Prelude.{◌≡◌, length};
-ghost use Rattle.passages.specs.State.{Ready, state_of, opened, tally_of};
+ghost use Rattle.passages.specs.State.{state_of, opened, tally_of};
 
 use answers::answer::Tally;
 use arena::DirectArena;
@@ -19,10 +19,9 @@ const REQUEST: usize = 16;
 /// An empty register over the slots that the caller lends.
 pub fn open<'a>(slots: &'a mut [Slot]) -> Register<'a>
     ensures state { state_of result ≡ opened (length slots.old) }
-    ensures ready { Ready result }
 {
     let slab = SlabStack::with_min_capacity(slots, REQUEST);
-    DirectArena::new(LimitedStack::new::<Slot>(slab))
+    DirectArena::new(LimitedStack::new(slab))
 }
 
 /// The pointer of a slot and a season.
@@ -37,7 +36,6 @@ pub fn pointer(slot: u16, season: u32) -> Pointer
 
 /// What the register holds.
 pub fn tally(register: &Register<'_>) -> Tally
-    requires { Ready register.now }
     ensures { result ≡ tally_of (state_of register.now) }
 {
     Tally {

@@ -1,7 +1,7 @@
 -- The history that a script adds is one that leads there.
-use Rattle.std.proofs.Common.{◌≡◌, ℕ, Bool, true, false, cond, ◌&&◌, leb, List, [], ◌∷◌, ◌++◌, Some, None, Option, sym, refl, ap, ◌∙◌, subst, append_assoc, arith}
-use Rattle.answers.specs.Shown.{concerns_record}
+use Rattle.std.proofs.Common.{◌≡◌, ℕ, Bool, true, false, cond, ◌&&◌, leb, List, [], ◌∷◌, ◌++◌, Some, None, Ok, Err, Option, Result, sym, refl, ap, ◌∙◌, subst, append_assoc, arith}
 use Rattle.answers.specs.declared.answer.Concerned.{Concerned}
+use Rattle.answers.specs.declared.answer.Concerned.TheVariants.{Record}
 use Rattle.arena.specs.Answers.{value_answer, edit_answer}
 use Rattle.slots.specs.Inserted.{insert_answer}
 use Rattle.slots.specs.Records.{match_in, found}
@@ -16,8 +16,7 @@ use Rattle.kinds.specs.declared.slot.DirectSlot.TheVariants.{Free, Allocated}
 use Rattle.lines.specs.Meaning.{meaning}
 use Rattle.lines.specs.declared.call.Call.{Call}
 use Rattle.lines.specs.declared.call.Call.TheVariants.{Insert, Edit, Get, Remove, Trim, Reserve, Limit, Clear}
-use Rattle.lines.specs.declared.parse.Parsed.{Parsed}
-use Rattle.lines.specs.declared.parse.Parsed.TheVariants.{Asks, Unknown, Unfit}
+use Rattle.lines.specs.declared.error.LineError.{LineError}
 use Rattle.passages.specs.State.{State, capacity_of, cite}
 use Rattle.steps.specs.Model.{shown, outcome, recorded, slots_by, entries, after_line, adds}
 use Rattle.runner.specs.Run.{lines_by, after_all, adds_all, state_by}
@@ -46,10 +45,10 @@ found_asked : {X : Type 0} (p : Ptr SeasonGen) (s : Slots SeasonGen ℕ) (f : X 
 found_asked p s f answer miss w = match_asked p.slot (at p.slot s) p.gen f answer miss w
 
 call_asked : (st : State) (c : Call) (h : history.Call SeasonGen ℕ) → recorded c ≡ Some h → went (outcome st c) ≡ true → asks season_alike h st.slots ≡ true
-call_asked st (Insert s g v) h e w = let p : history.insert (cite s g) v ≡ h = cc in subst (λ x. asks season_alike x st.slots ≡ true) p (vacant_asked (capacity_of st) (cite s g) st.slots (λ _. concerns_record s g v) w)
-call_asked st (Edit s g v) h e w = let p : history.edit (pointer (cite s g)) v ≡ h = cc in subst (λ x. asks season_alike x st.slots ≡ true) p (found_asked (cite s g) st.slots (λ u. concerns_record s g u) (edit_answer v) refl w)
+call_asked st (Insert s g v) h e w = let p : history.insert (cite s g) v ≡ h = cc in subst (λ x. asks season_alike x st.slots ≡ true) p (vacant_asked (capacity_of st) (cite s g) st.slots (λ _. Record s g v) w)
+call_asked st (Edit s g v) h e w = let p : history.edit (pointer (cite s g)) v ≡ h = cc in subst (λ x. asks season_alike x st.slots ≡ true) p (found_asked (cite s g) st.slots (λ u. Record s g u) (edit_answer v) refl w)
 call_asked st (Get s g) h e w = absurd (let z : ◌≡◌ {A = ℕ} 0 1 = cc in omega arith)
-call_asked st (Remove s g) h e w = let p : history.remove (pointer (cite s g)) ≡ h = cc in subst (λ x. asks season_alike x st.slots ≡ true) p (found_asked (cite s g) st.slots (λ u. concerns_record s g u) value_answer refl w)
+call_asked st (Remove s g) h e w = let p : history.remove (pointer (cite s g)) ≡ h = cc in subst (λ x. asks season_alike x st.slots ≡ true) p (found_asked (cite s g) st.slots (λ u. Record s g u) value_answer refl w)
 call_asked st (Trim n) h e w = let p : history.trim n ≡ h = cc in subst (λ x. asks season_alike x st.slots ≡ true) p refl
 call_asked st (Reserve n) h e w = let p : history.reallocate n ≡ h = cc in subst (λ x. asks season_alike x st.slots ≡ true) p refl
 call_asked st (Limit n) h e w = let p : history.limit n ≡ h = cc in subst (λ x. asks season_alike x st.slots ≡ true) p refl
@@ -59,10 +58,9 @@ call_leads : (st : State) (c : Call) (past : List (Entry SeasonGen ℕ)) → Lea
 call_leads st c past l None e = l
 call_leads st c past l (Some h) e = next l (record { asked = call_asked st c h e; slots = refl })
 
-line_leads : (st : State) (p : Parsed) (past : List (Entry SeasonGen ℕ)) → Leads season_alike past st.slots → Leads season_alike (adds st p ++ past) (after_line st p).slots
-line_leads st (Asks c) past l = call_leads st c past l (recorded c) refl
-line_leads st Unknown past l = l
-line_leads st Unfit past l = l
+line_leads : (st : State) (p : Result Call LineError) (past : List (Entry SeasonGen ℕ)) → Leads season_alike past st.slots → Leads season_alike (adds st p ++ past) (after_line st p).slots
+line_leads st (Ok c) past l = call_leads st c past l (recorded c) refl
+line_leads st (Err e) past l = l
 
 all_lead : (st : State) (ls : List (List ℕ)) (past : List (Entry SeasonGen ℕ)) → Leads season_alike past st.slots → Leads season_alike (adds_all st ls ++ past) (after_all st ls).slots
 all_lead st [] past l = l

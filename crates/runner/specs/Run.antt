@@ -2,18 +2,19 @@
 use Rattle.std.specs.Prelude.{ℕ, cond, List, [], ◌∷◌, ◌++◌, length, Some, None, codes, Option, nat_lt}
 use Rattle.std.specs.Borrow.{Bor}
 use Rattle.std.specs.Str.{bytes_eq}
-use Rattle.answers.specs.Shown.{answer_line, refusal}
+use Rattle.answers.specs.Shown.{reply_line}
 use Rattle.history.specs.Calls.{Entry}
 use Rattle.kinds.specs.declared.generation.SeasonGen.{SeasonGen}
 use Rattle.lines.specs.Meaning.{meaning}
 use Rattle.text.specs.Split.{lines_of}
+use Rattle.outcome.specs.Outcome.{refused}
 use Rattle.passages.specs.State.{State, tally_of}
 use Rattle.steps.specs.Model.{answer_to, after_line, adds}
 
 -- what is written of lines, from a state on
 abbrev pub output : State → List (List ℕ) → List ℕ
 output st [] = []
-output st (l ∷ ls) = answer_line (answer_to st (meaning l)) ++ output (after_line st (meaning l)) ls
+output st (l ∷ ls) = reply_line (answer_to st (meaning l)) ++ output (after_line st (meaning l)) ls
 
 -- the state after them
 abbrev pub after_all : State → List (List ℕ) → State
@@ -45,7 +46,7 @@ lines_by None = []
 -- of an input that is no script only 11 is written
 abbrev pub answers_to : State → Option (List (List ℕ)) → List ℕ
 answers_to st (Some ls) = output st ls
-answers_to st None = answer_line (refusal 11 (tally_of st))
+answers_to st None = reply_line (record { verdict = refused 11; tally = tally_of st })
 
 abbrev pub state_by : State → Option (List (List ℕ)) → State
 state_by st (Some ls) = after_all st ls

@@ -1,16 +1,17 @@
 ghost use Rattle.std.specs.Prelude.{◌≡◌, ◌++◌, IfOk, string_bytes, OnOk};
 ghost use Rattle.text.specs.Split.{lines_of};
-ghost use Rattle.passages.specs.State.{Ready, state_of};
+ghost use Rattle.passages.specs.State.{state_of};
 ghost use Rattle.runner.specs.Run.{output, after_all, lines_in, lines_by, script_of, answers_to, state_by, report};
 ghost use Rattle.runner.specs.Led.{Led, Reached, Stopped};
 
 use answers::answer::Answer;
+use answers::refusal::Refusal;
 use answers::write::add_line;
 use lines::parse::parse;
 use passages::{Register, tally};
 use std::alloc::{AllocError, Global};
 use steps::step::step;
-use text::split::first_line;
+use text::split::{Lines, first_line};
 use text::word::is_word;
 
 const LONGEST: usize = 65_536;
@@ -21,18 +22,13 @@ fn add_answers(
     register: &mut Register<'_>,
     script: &[u8],
 ) -> Result<(), AllocError>
-    requires { Ready register.old }
     ensures text { OnOk result (string_bytes out.new ≡ string_bytes out.old ++ output (state_of register.old) (lines_of script.now)) }
     ensures after { OnOk result (state_of register.new ≡ after_all (state_of register.old) (lines_of script.now)) }
     ensures reached { Reached (state_of register.old) (lines_of script.now) (state_of register.new) }
-    ensures ready { Ready register.new }
 {
-    let mut rest = script;
-    while !rest.is_empty() {
-        let (line, after) = first_line(rest);
+    for line in Lines::new(script) {
         let answer = step(register, parse(line));
         add_line(out, answer)?;
-        rest = after;
     }
     Ok(())
 }
@@ -44,40 +40,35 @@ fn after_names(input: &[u8]) -> Option<&[u8]>
     if input.len() > LONGEST {
         return None;
     }
-    if input.is_empty() {
-        return None;
-    }
-    let (line, rest) = first_line(input);
-    if is_word(line, b"call slot generation value") {
-        Some(rest)
-    } else {
-        None
-    }
+    let (line, rest) = first_line(input)?;
+    is_word(line, b"call slot generation value").then_some(rest)
 }
 
 // Adds the answers to `input`, or the one refusal.
 fn add_report(out: &mut String, register: &mut Register<'_>, input: &[u8]) -> Result<(), AllocError>
-    requires { Ready register.old }
     ensures text { OnOk result (string_bytes out.new ≡ string_bytes out.old ++ answers_to (state_of register.old) (script_of input.now)) }
     ensures after { OnOk result (state_of register.new ≡ state_by (state_of register.old) (script_of input.now)) }
     ensures reached { Reached (state_of register.old) (lines_by (script_of input.now)) (state_of register.new) }
-    ensures ready { Ready register.new }
 {
     match after_names(input) {
         Some(rest) => add_answers(out, register, rest),
-        None => add_line(out, Answer::refused(11, tally(register))),
+        None => {
+            let answer = Answer {
+                verdict: Err(Refusal::NotAScript),
+                tally: tally(register),
+            };
+            add_line(out, answer)
+        }
     }
 }
 
 /// The whole report on `input`, with a line for each call; and the register's history goes on by just those calls.
 /// Where memory for the report fails, the first calls were carried out and no other.
 pub fn run(heap: Global, register: &mut Register<'_>, input: &[u8]) -> Result<String, AllocError>
-    requires { Ready register.old }
     ensures text { IfOk result (λ out. string_bytes out ≡ report (state_of register.old) input.now) }
     ensures after { OnOk result (state_of register.new ≡ state_by (state_of register.old) (script_of input.now)) }
     ensures led { OnOk result (Led (state_of register.old) (script_of input.now) (state_of register.new)) }
     ensures stopped { Stopped (state_of register.old) (script_of input.now) (state_of register.new) }
-    ensures ready { Ready register.new }
 {
     let mut out = String::from_str(heap, "answer slot generation value count slots capacity\n")?;
     add_report(&mut out, register, input)?;

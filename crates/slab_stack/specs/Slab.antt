@@ -1,5 +1,5 @@
 -- The slab stack: its settings are the capacity and the number of lent slots.
-use Rattle.std.specs.Prelude.{◌≡◌, ℕ, ◌*◌, ◌≤◌, min, max, Bool, true, false, List, length, take, nat_lt}
+use Rattle.std.specs.Prelude.{◌≡◌, ℕ, ◌*◌, min, max, Bool, true, false, List, length, take, nat_lt}
 use Rattle.outcome.specs.Outcome.{Outcome, done, refused}
 use Rattle.stack.specs.Slots.{counted}
 use Rattle.slab_stack.specs.declared.slab.SlabStack.{SlabStack}
@@ -12,9 +12,6 @@ slab_lent s = length s.slots.now
 
 abbrev pub slab_config : {U : Type 0} → SlabStack U → ℕ × ℕ
 slab_config s = (s.room, slab_lent s)
-
-abbrev pub SlabSound : {U : Type 0} → SlabStack U → Type 0
-SlabSound s = (s.len ≤ s.room) × (s.room ≤ counted (slab_lent s))
 
 -- by the tests 'r exceeds the capacity' and 'r exceeds the lent slots'
 abbrev pub slab_answer : Bool → Bool → Outcome (Unit {0})

@@ -4,7 +4,7 @@ use Rattle.std.proofs.Common.{ap, ◌∙◌, arith, ltb-false, ltb-true, length-
 use Rattle.outcome.specs.Outcome.{done, refused}
 use Rattle.stack.specs.Laws.{Laws}
 use Rattle.stack.specs.Slots.{counted}
-use Rattle.slab_stack.specs.Slab.{slab_list, slab_config, SlabSound, slab_answer, slab_room, SlabRegrown}
+use Rattle.slab_stack.specs.Slab.{slab_list, slab_config, slab_answer, slab_room, SlabRegrown}
 use Rattle.slab_stack.specs.declared.slab.SlabStack.{SlabStack}
 
 kept_room : (a b : Bool) (c l n r k : ℕ) → refused k ≡ slab_answer a b → slab_room a b c l n r ≡ c
@@ -22,11 +22,11 @@ never_six true true h = let z : ◌≡◌ {A = ℕ} 6 7 = cc in omega arith
 never_six true false h = let z : ◌≡◌ {A = ℕ} 0 1 = cc in omega arith
 never_six false b h = let z : ◌≡◌ {A = ℕ} 0 1 = cc in omega arith
 
-pub slab_laws : {U : Type 0} → Laws {Self = SlabStack U} slab_list slab_config (λ c. c.0) (λ c. None) SlabSound SlabRegrown
+pub slab_laws : {U : Type 0} → Laws {Self = SlabStack U} slab_list slab_config (λ c. c.0) (λ c. None) SlabRegrown
 slab_laws = record {
-  fits = λ s h. simp length-take (omega arith);
-  small = λ s h. omega arith;
-  under = λ s h. tt;
+  fits = λ s. simp length-take (omega (arith, s.within));
+  small = λ s. omega (arith, s.lent);
+  under = λ s. tt;
   unchanged = λ c d n r k h. ap (λ x. (x, d.1)) (h.1 ∙ kept_room (nat_lt c.0 r) (nat_lt (counted c.1) r) c.0 (counted c.1) n r k h.0) ∙ ap (λ y. (c.0, y)) h.2;
   granted = λ c d n r le h. let w = wide (nat_lt c.0 r) (nat_lt (counted c.1) r) c.0 (counted c.1) n r refl refl le h.0 in (refl, omega (arith, h.1), omega (arith, h.1));
   beyond = λ c d n r h. absurd (never_six (nat_lt c.0 r) (nat_lt (counted c.1) r) h.0);

@@ -1,7 +1,5 @@
-ghost use Rattle.std.specs.Prelude.{◌≡◌, ℕ, min, [], length, take, if◌then◌else◌, None, nat_lt};
+ghost use Rattle.std.specs.Prelude.{◌≡◌, ℕ, ◌≤◌, min, [], length, take, if◌then◌else◌, None, nat_lt};
 ghost use Rattle.outcome.specs.Outcome.{done, refused, of_reallocation};
-ghost use Rattle.slab_stack.specs.Slab.{slab_list, slab_config, slab_lent, SlabSound, SlabRegrown};
-ghost use Rattle.slab_stack.specs.SlabLaws.{slab_laws};
 ghost use Rattle.stack.specs.Slots.{counted};
 
 use outcome::{NotWithinCapacityError, ReallocationError};
@@ -15,17 +13,20 @@ pub struct SlabStack<'a, U> {
     slots: &'a mut [U],
     len: usize,
     room: usize,
+    ghost within: { len ≤ room },
+    // the capacity is had: it is lent, and counts
+    ghost lent: { room ≤ counted (length slots.now) },
 }
 
 impl<'a, U: Copy> SlabStack<'a, U> {
+    ghost use Rattle.slab_stack.specs.Slab.{slab_list, slab_config, slab_lent};
+
     /// An empty stack with room for the request, or for the lent slots where those are fewer.
     pub fn with_min_capacity(slots: &'a mut [U], request: usize) -> SlabStack<'a, U>
         ensures slots { slab_list result ≡ [] }
         ensures settings { slab_config result ≡ (min request (counted (length slots.old)), length slots.old) }
-        ensures stands { SlabSound result }
     {
-        let most = room_of(slots);
-        let room = if request < most { request } else { most };
+        let room = request.min(room_of(slots));
         SlabStack {
             slots,
             len: 0,
@@ -45,10 +46,9 @@ impl<'a, U: Copy> SlabStack<'a, U> {
         ensures { of_reallocation result ≡ (if nat_lt (counted (slab_lent self.now)) n then refused 7 else done tt) }
     {
         if n > self.lent() {
-            Err(ReallocationError::AllocError)
-        } else {
-            Ok(())
+            return Err(ReallocationError::AllocError);
         }
+        Ok(())
     }
 
     /// The lent slots, of which the first are the list. What the others hold is left free.
@@ -56,16 +56,17 @@ impl<'a, U: Copy> SlabStack<'a, U> {
         ensures front { take (length (slab_list self.entry)) result.now ≡ slab_list self.entry }
         ensures long { length result.now ≡ slab_lent self.entry }
     {
-        let SlabStack {
-            slots,
-            len: _,
-            room: _,
-        } = self;
+        let SlabStack { slots, .. } = self;
         slots
     }
 }
 
-impl<'a, U: Copy> NonZeroInxGenericStack<U> for SlabStack<'a, U> {
+impl<'a, U: Copy> NonZeroInxGenericStack for SlabStack<'a, U> {
+    type Slot = U;
+
+    ghost use Rattle.slab_stack.specs.Slab.{slab_list, slab_config, SlabRegrown};
+    ghost use Rattle.slab_stack.specs.SlabLaws.{slab_laws};
+
     ghost Config = { ℕ × ℕ };
 
     ghost list = { slab_list };
@@ -75,8 +76,6 @@ impl<'a, U: Copy> NonZeroInxGenericStack<U> for SlabStack<'a, U> {
     ghost room = { λ c. c.0 };
 
     ghost limit = { λ c. None };
-
-    ghost sound = { SlabSound };
 
     ghost regrown = { SlabRegrown };
 
@@ -99,23 +98,15 @@ impl<'a, U: Copy> NonZeroInxGenericStack<U> for SlabStack<'a, U> {
     }
 
     fn replace(&mut self, n: usize, u: U) -> Option<U> {
-        let len = self.len;
-        replace_slot(self.slots, len, n, u)
+        replace_slot(self.slots, self.len, n, u)
     }
 
     fn push_within_capacity(&mut self, u: U) -> Result<(), NotWithinCapacityError> {
-        let mut len = self.len;
-        let room = self.room;
-        let pushed = push_slot(self.slots, &mut len, room, u);
-        self.len = len;
-        pushed
+        push_slot(self.slots, &mut self.len, self.room, u)
     }
 
     fn pop(&mut self) -> Option<U> {
-        let mut len = self.len;
-        let popped = pop_slot(self.slots, &mut len);
-        self.len = len;
-        popped
+        pop_slot(self.slots, &mut self.len)
     }
 
     fn clear(&mut self) {
@@ -123,17 +114,12 @@ impl<'a, U: Copy> NonZeroInxGenericStack<U> for SlabStack<'a, U> {
     }
 
     fn reallocate_min_capacity(&mut self, r: usize) -> Result<(), ReallocationError> {
-        let most = self.lent();
-        if r > self.room {
-            if r > most {
-                return Err(ReallocationError::AllocError);
-            }
-            let twice = 2 * self.room;
-            let wanted = if r < twice { twice } else { r };
-            self.room = if most < wanted { most } else { wanted };
+        self.room = if r > self.room {
+            self.test(r)?;
+            self.lent().min(r.max(2 * self.room))
         } else {
-            self.room = if r < self.len { self.len } else { r };
-        }
+            r.max(self.len)
+        };
         Ok(())
     }
 }

@@ -8,10 +8,9 @@ use kinds::DirectSlot;
 use stack::NonZeroInxGenericStack;
 
 /// The record in the lowest slot; none where no record stands.
-pub fn first_record<G: Copy, V: Copy, S: NonZeroInxGenericStack<DirectSlot<G, V>>>(
+pub fn first_record<G: Copy, V: Copy, S: NonZeroInxGenericStack<Slot = DirectSlot<G, V>>>(
     m: &S,
 ) -> Option<Found<G, V>>
-    requires { S.sound m.now }
     ensures first { held_in result ≡ first_of (held 1 (S.list m.now)) }
     ensures absent { is_some result ≡ not (count (S.list m.now) == 0) }
     ensures within { Within result (length (S.list m.now)) }
@@ -25,10 +24,9 @@ pub fn first_record<G: Copy, V: Copy, S: NonZeroInxGenericStack<DirectSlot<G, V>
 }
 
 /// The record in the highest slot; none where no record stands.
-pub fn last_record<G: Copy, V: Copy, S: NonZeroInxGenericStack<DirectSlot<G, V>>>(
+pub fn last_record<G: Copy, V: Copy, S: NonZeroInxGenericStack<Slot = DirectSlot<G, V>>>(
     m: &S,
 ) -> Option<Found<G, V>>
-    requires { S.sound m.now }
     ensures last { held_in result ≡ last_of (held 1 (S.list m.now)) }
     ensures absent { is_some result ≡ not (count (S.list m.now) == 0) }
     ensures within { Within result (length (S.list m.now)) }
@@ -42,34 +40,28 @@ pub fn last_record<G: Copy, V: Copy, S: NonZeroInxGenericStack<DirectSlot<G, V>>
 }
 
 // Whether there is a last slot and it is free.
-fn ends_free<G: Copy, V: Copy, S: NonZeroInxGenericStack<DirectSlot<G, V>>>(m: &S) -> bool
-    requires { S.sound m.now }
+fn ends_free<G: Copy, V: Copy, S: NonZeroInxGenericStack<Slot = DirectSlot<G, V>>>(m: &S) -> bool
     ensures { result ≡ ends_free (S.list m.now) }
 {
-    match m.get(m.len()) {
-        Some(DirectSlot::Free) => true,
-        Some(DirectSlot::Allocated(_, _)) => false,
-        None => false,
-    }
+    matches!(m.get(m.len()), Some(DirectSlot::Free))
 }
 
 /// Pops free slots from the end, at most `num`, and answers how many went.
-pub fn pop_free<G: Copy, V: Copy, S: NonZeroInxGenericStack<DirectSlot<G, V>>>(
+pub fn pop_free<G: Copy, V: Copy, S: NonZeroInxGenericStack<Slot = DirectSlot<G, V>>>(
     m: &mut S,
     num: usize,
 ) -> usize
-    requires { S.sound m.old }
     ensures answer { result ≡ length (S.list m.old) - length (trimmed num (S.list m.old)) }
     ensures slots { S.list m.new ≡ trimmed num (S.list m.old) }
     ensures counted { count (S.list m.new) ≡ count (S.list m.old) }
     ensures long { length (S.list m.new) ≤ length (S.list m.old) }
     ensures kept { S.config m.new ≡ S.config m.old }
-    ensures stands { S.sound m.new }
 {
-    let mut popped = 0;
-    while popped < num && ends_free(m) {
+    for popped in 0..num {
+        if !ends_free(m) {
+            return popped;
+        }
         let _ = m.pop();
-        popped += 1;
     }
-    popped
+    num
 }

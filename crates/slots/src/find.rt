@@ -15,11 +15,10 @@ pub struct Found<G, V> {
 }
 
 /// The record of a slot, if it has one.
-pub fn record_at<G: Copy, V: Copy, S: NonZeroInxGenericStack<DirectSlot<G, V>>>(
+pub fn record_at<G: Copy, V: Copy, S: NonZeroInxGenericStack<Slot = DirectSlot<G, V>>>(
     m: &S,
     slot: usize,
 ) -> Option<Found<G, V>>
-    requires { S.sound m.now }
     ensures { held_in result ≡ named slot (S.list m.now) }
 {
     match m.get(slot) {
@@ -33,36 +32,29 @@ pub fn record_at<G: Copy, V: Copy, S: NonZeroInxGenericStack<DirectSlot<G, V>>>(
 }
 
 /// The record of a slot, if it has one under this generation.
-pub fn find_record<G: PtrGen, V: Copy, S: NonZeroInxGenericStack<DirectSlot<G, V>>>(
+pub fn find_record<G: PtrGen, V: Copy, S: NonZeroInxGenericStack<Slot = DirectSlot<G, V>>>(
     m: &S,
     slot: usize,
     cited: G,
 ) -> Option<Found<G, V>>
-    requires { S.sound m.now }
-    ensures { held_in result ≡ found G.alike (to slot cited) (S.list m.now) }
+    ensures { held_in result ≡ found G.eq (to slot cited) (S.list m.now) }
 {
     match m.get(slot) {
-        Some(DirectSlot::Allocated(generation, value)) if generation.matches(cited) => Some(
-            Found {
-                slot,
-                generation,
-                value,
-            },
-        ),
+        Some(DirectSlot::Allocated(generation, value)) if generation == cited => Some(Found {
+            slot,
+            generation,
+            value,
+        }),
         _ => None,
     }
 }
 
 /// Whether a slot is free, or beyond the slots.
-pub fn is_vacant<G: Copy, V: Copy, S: NonZeroInxGenericStack<DirectSlot<G, V>>>(
+pub fn is_vacant<G: Copy, V: Copy, S: NonZeroInxGenericStack<Slot = DirectSlot<G, V>>>(
     m: &S,
     slot: usize,
 ) -> bool
-    requires { S.sound m.now }
     ensures { result ≡ is_free (at slot (S.list m.now)) }
 {
-    match record_at(m, slot) {
-        Some(_) => false,
-        None => true,
-    }
+    record_at(m, slot).is_none()
 }

@@ -11,25 +11,26 @@ use outcome::DirectInsertionError;
 use stack::NonZeroInxGenericStack;
 
 // Adds free slots until there are n.
-fn fill_to<G: Copy, V: Copy, S: NonZeroInxGenericStack<DirectSlot<G, V>>>(m: &mut S, n: usize)
-    requires { (S.sound m.old) × (n ≤ S.room (S.config m.old)) }
+fn fill_to<G: Copy, V: Copy, S: NonZeroInxGenericStack<Slot = DirectSlot<G, V>>>(
+    m: &mut S,
+    n: usize,
+)
+    requires { n ≤ S.room (S.config m.old) }
     ensures slots { S.list m.new ≡ filled (S.list m.old) n }
     ensures kept { S.config m.new ≡ S.config m.old }
-    ensures stands { S.sound m.new }
 {
-    while m.len() < n {
+    for _ in m.len()..n {
         let _ = m.push_within_capacity(DirectSlot::Free);
     }
 }
 
 // A record comes into a slot that is vacant and within the capacity; free slots are added up to it.
-fn place<G: Copy, V: Copy, S: NonZeroInxGenericStack<DirectSlot<G, V>>>(
+fn place<G: Copy, V: Copy, S: NonZeroInxGenericStack<Slot = DirectSlot<G, V>>>(
     m: &mut S,
     n: usize,
     generation: G,
     value: V,
 )
-    requires sound { S.sound m.old }
     requires low { 1 ≤ n }
     requires high { n ≤ S.room (S.config m.old) }
     requires vacant { is_free (at n (S.list m.old)) ≡ true }
@@ -37,7 +38,6 @@ fn place<G: Copy, V: Copy, S: NonZeroInxGenericStack<DirectSlot<G, V>>>(
     ensures counted { count (S.list m.new) ≡ count (S.list m.old) + 1 }
     ensures long { length (S.list m.new) ≡ max n (length (S.list m.old)) }
     ensures kept { S.config m.new ≡ S.config m.old }
-    ensures stands { S.sound m.new }
 {
     fill_to(m, n);
     let _ = m.replace(n, DirectSlot::Allocated(generation, value));
@@ -45,17 +45,15 @@ fn place<G: Copy, V: Copy, S: NonZeroInxGenericStack<DirectSlot<G, V>>>(
 
 /// Brings in a record at a slot's number; free slots are added up to it. 1 beyond the capacity, 2 where the slot is
 /// taken.
-pub fn insert_record<G: Copy, V: Copy, S: NonZeroInxGenericStack<DirectSlot<G, V>>>(
+pub fn insert_record<G: Copy, V: Copy, S: NonZeroInxGenericStack<Slot = DirectSlot<G, V>>>(
     m: &mut S,
     n: usize,
     generation: G,
     value: V,
 ) -> Result<(), DirectInsertionError>
-    requires { S.sound m.old }
     ensures answer { of_insertion result ≡ insert_answer (S.room (S.config m.old)) (to n generation) (S.list m.old) }
     ensures left { Inserted (of_insertion result) n (Allocated generation value) (S.list m.old) (S.list m.new) }
     ensures kept { S.config m.new ≡ S.config m.old }
-    ensures stands { S.sound m.new }
 {
     if n == 0 || n > m.capacity() {
         return Err(DirectInsertionError::NotWithinCapacity);
@@ -68,18 +66,16 @@ pub fn insert_record<G: Copy, V: Copy, S: NonZeroInxGenericStack<DirectSlot<G, V
 }
 
 /// A slot that holds a record gives way to another: the record with a new value, or a free slot.
-pub fn overwrite<G: Copy, V: Copy, S: NonZeroInxGenericStack<DirectSlot<G, V>>>(
+pub fn overwrite<G: Copy, V: Copy, S: NonZeroInxGenericStack<Slot = DirectSlot<G, V>>>(
     m: &mut S,
     n: usize,
     slot: DirectSlot<G, V>,
 )
-    requires sound { S.sound m.old }
-    requires held { is_held (at n (S.list m.old)) ≡ true }
+    requires { is_held (at n (S.list m.old)) ≡ true }
     ensures slots { S.list m.new ≡ write n slot (S.list m.old) }
     ensures counted { count (S.list m.new) + 1 ≡ count (S.list m.old) + taken slot }
     ensures long { length (S.list m.new) ≡ length (S.list m.old) }
     ensures kept { S.config m.new ≡ S.config m.old }
-    ensures stands { S.sound m.new }
 {
     let _ = m.replace(n, slot);
 }

@@ -1,5 +1,5 @@
 -- The fixed stack: its one setting is the number of lent slots.
-use Rattle.std.specs.Prelude.{◌≡◌, ℕ, ◌≤◌, cond, List, length, take, nat_lt}
+use Rattle.std.specs.Prelude.{◌≡◌, ℕ, cond, List, length, take, nat_lt}
 use Rattle.outcome.specs.Outcome.{Outcome, done, refused}
 use Rattle.stack.specs.Slots.{counted}
 use Rattle.stack.specs.declared.fixed.FixedStack.{FixedStack}
@@ -9,9 +9,6 @@ fixed_list s = take s.len s.slots.now
 
 abbrev pub fixed_lent : {U : Type 0} → FixedStack U → ℕ
 fixed_lent s = length s.slots.now
-
-abbrev pub FixedSound : {U : Type 0} → FixedStack U → Type 0
-FixedSound s = s.len ≤ counted (fixed_lent s)
 
 -- a request above the capacity is refused with 6, and any other changes nothing
 abbrev pub fixed_answer : ℕ → ℕ → Outcome (Unit {0})

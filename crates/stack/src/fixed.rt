@@ -1,6 +1,4 @@
-ghost use Rattle.std.specs.Prelude.{◌≡◌, ℕ, [], length, take, Some};
-ghost use Rattle.stack.specs.Fixed.{fixed_list, fixed_lent, FixedSound, FixedRegrown};
-ghost use Rattle.stack.specs.FixedLaws.{fixed_laws};
+ghost use Rattle.std.specs.Prelude.{◌≡◌, ℕ, ◌≤◌, [], length, take, Some};
 ghost use Rattle.stack.specs.Slots.{counted};
 
 use crate::generic::NonZeroInxGenericStack;
@@ -12,14 +10,17 @@ use outcome::{NotWithinCapacityError, ReallocationError};
 pub struct FixedStack<'a, U> {
     slots: &'a mut [U],
     len: usize,
+    // the list is in the lent slots that count
+    ghost within: { len ≤ counted (length slots.now) },
 }
 
 impl<'a, U: Copy> FixedStack<'a, U> {
+    ghost use Rattle.stack.specs.Fixed.{fixed_list, fixed_lent};
+
     /// An empty stack; what the lent slots hold is passed over.
     pub fn new(slots: &'a mut [U]) -> FixedStack<'a, U>
         ensures slots { fixed_list result ≡ [] }
         ensures settings { fixed_lent result ≡ length slots.old }
-        ensures stands { FixedSound result }
     {
         FixedStack { slots, len: 0 }
     }
@@ -29,12 +30,17 @@ impl<'a, U: Copy> FixedStack<'a, U> {
         ensures front { take (length (fixed_list self.entry)) result.now ≡ fixed_list self.entry }
         ensures long { length result.now ≡ fixed_lent self.entry }
     {
-        let FixedStack { slots, len: _ } = self;
+        let FixedStack { slots, .. } = self;
         slots
     }
 }
 
-impl<'a, U: Copy> NonZeroInxGenericStack<U> for FixedStack<'a, U> {
+impl<'a, U: Copy> NonZeroInxGenericStack for FixedStack<'a, U> {
+    type Slot = U;
+
+    ghost use Rattle.stack.specs.Fixed.{fixed_list, fixed_lent, FixedRegrown};
+    ghost use Rattle.stack.specs.FixedLaws.{fixed_laws};
+
     ghost Config = { ℕ };
 
     ghost list = { fixed_list };
@@ -45,8 +51,6 @@ impl<'a, U: Copy> NonZeroInxGenericStack<U> for FixedStack<'a, U> {
 
     ghost limit = { λ c. Some (counted c) };
 
-    ghost sound = { FixedSound };
-
     ghost laws = { fixed_laws };
 
     ghost regrown = { FixedRegrown };
@@ -56,7 +60,7 @@ impl<'a, U: Copy> NonZeroInxGenericStack<U> for FixedStack<'a, U> {
     }
 
     fn max_capacity(&self) -> Option<usize> {
-        Some(room_of(self.slots))
+        Some(self.capacity())
     }
 
     fn len(&self) -> usize {
@@ -68,23 +72,16 @@ impl<'a, U: Copy> NonZeroInxGenericStack<U> for FixedStack<'a, U> {
     }
 
     fn replace(&mut self, n: usize, u: U) -> Option<U> {
-        let len = self.len;
-        replace_slot(self.slots, len, n, u)
+        replace_slot(self.slots, self.len, n, u)
     }
 
     fn push_within_capacity(&mut self, u: U) -> Result<(), NotWithinCapacityError> {
-        let mut len = self.len;
         let room = self.capacity();
-        let pushed = push_slot(self.slots, &mut len, room, u);
-        self.len = len;
-        pushed
+        push_slot(self.slots, &mut self.len, room, u)
     }
 
     fn pop(&mut self) -> Option<U> {
-        let mut len = self.len;
-        let popped = pop_slot(self.slots, &mut len);
-        self.len = len;
-        popped
+        pop_slot(self.slots, &mut self.len)
     }
 
     fn clear(&mut self) {
@@ -92,11 +89,9 @@ impl<'a, U: Copy> NonZeroInxGenericStack<U> for FixedStack<'a, U> {
     }
 
     fn reallocate_min_capacity(&mut self, r: usize) -> Result<(), ReallocationError> {
-        let room = self.capacity();
-        if r > room {
-            Err(ReallocationError::BeyondMaxCapacity)
-        } else {
-            Ok(())
+        if r > self.capacity() {
+            return Err(ReallocationError::BeyondMaxCapacity);
         }
+        Ok(())
     }
 }

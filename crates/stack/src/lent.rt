@@ -4,6 +4,7 @@ ghost use Rattle.kinds.specs.Places.{slot_at, slot_put};
 ghost use Rattle.stack.specs.Slots.{pushed_to, popped_from, counted};
 
 use outcome::NotWithinCapacityError;
+use std::mem::replace;
 
 // an index has at most 32 bits, and none is 0
 const MOST: usize = 4_294_967_295;
@@ -13,11 +14,7 @@ pub fn read_slot<U: Copy>(slots: &[U], len: usize, n: usize) -> Option<U>
     requires { len ≤ length slots.now }
     ensures { result ≡ slot_at (take len slots.now) n }
 {
-    if 1 <= n && n <= len {
-        Some(slots[n - 1])
-    } else {
-        None
-    }
+    slots[..len].get(n.checked_sub(1)?).copied()
 }
 
 /// The slot at a place of the first `len` slots gives way to another, and comes back.
@@ -27,13 +24,10 @@ pub fn replace_slot<U: Copy>(slots: &mut [U], len: usize, n: usize, u: U) -> Opt
     ensures slots { take len slots.new ≡ slot_put (take len slots.old) n u }
     ensures long { length slots.new ≡ length slots.old }
 {
-    if 1 <= n && n <= len {
-        let old = slots[n - 1];
-        slots[n - 1] = u;
-        Some(old)
-    } else {
-        None
+    if n == 0 || n > len {
+        return None;
     }
+    Some(replace(&mut slots[n - 1], u))
 }
 
 /// One slot more behind the first `len`, where they are fewer than `room`; 1 where they are not.
@@ -50,14 +44,12 @@ pub fn push_slot<U: Copy>(
     ensures long { length slots.new ≡ length slots.old }
     ensures within { len.new ≤ room }
 {
-    let at = *len;
-    if at < room {
-        slots[at] = u;
-        *len = at + 1;
-        Ok(())
-    } else {
-        Err(NotWithinCapacityError)
+    if *len == room {
+        return Err(NotWithinCapacityError);
     }
+    slots[*len] = u;
+    *len += 1;
+    Ok(())
 }
 
 /// The last of the first `len` slots goes, and comes back.
@@ -68,23 +60,14 @@ pub fn pop_slot<U: Copy>(slots: &mut [U], len: &mut usize) -> Option<U>
     ensures long { length slots.new ≡ length slots.old }
     ensures within { len.new ≤ len.old }
 {
-    let n = *len;
-    if n == 0 {
-        None
-    } else {
-        *len = n - 1;
-        let last = slots[n - 1];
-        Some(last)
-    }
+    let last = len.checked_sub(1)?;
+    *len = last;
+    Some(slots[last])
 }
 
 /// How many of the lent slots count.
 pub fn room_of<U>(slots: &[U]) -> usize
     ensures { result ≡ counted (length slots.now) }
 {
-    if slots.len() < MOST {
-        slots.len()
-    } else {
-        MOST
-    }
+    slots.len().min(MOST)
 }

@@ -1,9 +1,8 @@
 -- What each call of a script answers, and what it leaves.
-use Rattle.std.specs.Prelude.{ℕ, ◌-◌, Bool, true, false, cond, List, [], ◌∷◌, length, Some, None, Option, nat_le, nat_lt}
-use Rattle.answers.specs.Shown.{concerns_record, concerns_value, concerns_nothing, refusal, accepted}
-use Rattle.answers.specs.declared.answer.Answer.{Answer}
+use Rattle.std.specs.Prelude.{ℕ, ◌-◌, Bool, true, false, cond, List, [], ◌∷◌, length, Some, None, Ok, Err, Option, Result, nat_le, nat_lt}
+use Rattle.answers.specs.Shown.{Reply}
 use Rattle.answers.specs.declared.answer.Concerned.{Concerned}
-use Rattle.answers.specs.declared.answer.Tally.{Tally}
+use Rattle.answers.specs.declared.answer.Concerned.TheVariants.{Record, Value, Nothing}
 use Rattle.arena.specs.Answers.{value_answer, edit_answer}
 use Rattle.slots.specs.Inserted.{insert_answer}
 use Rattle.slots.specs.Records.{found}
@@ -15,8 +14,8 @@ use Rattle.outcome.specs.Outcome.{Outcome, done, overflowed, refused}
 use Rattle.kinds.specs.declared.generation.SeasonGen.{SeasonGen}
 use Rattle.lines.specs.declared.call.Call.{Call}
 use Rattle.lines.specs.declared.call.Call.TheVariants.{Insert, Edit, Get, Remove, Trim, Reserve, Limit, Clear}
-use Rattle.lines.specs.declared.parse.Parsed.{Parsed}
-use Rattle.lines.specs.declared.parse.Parsed.TheVariants.{Asks, Unknown, Unfit}
+use Rattle.lines.specs.declared.error.LineError.{LineError}
+use Rattle.lines.specs.declared.error.LineError.TheVariants.{Unknown, Unfit}
 use Rattle.stack.specs.Limits.{limit_answer}
 use Rattle.slab_stack.specs.Slab.{slab_answer, slab_room}
 use Rattle.stack.specs.Slots.{counted}
@@ -27,11 +26,6 @@ abbrev pub shown : {X : Type 0} → (X → Concerned) → Outcome X → Outcome 
 shown f (done x) = done (f x)
 shown f (overflowed x) = overflowed (f x)
 shown f (refused n) = refused n
-
-abbrev pub answer_of : Outcome Concerned → Tally → Answer
-answer_of (done c) t = accepted c t
-answer_of (overflowed c) t = accepted c t
-answer_of (refused n) t = refusal n t
 
 -- the slots that a capacity request leaves
 abbrev pub cut_to : ℕ → Slots SeasonGen ℕ → Slots SeasonGen ℕ
@@ -56,14 +50,14 @@ reserve_room st n = room_by (nat_lt 65535 n) (nat_lt st.limit n) st.room (slab_r
 
 -- whether a call is accepted, with what it shows, or its refusal's number
 abbrev pub outcome : State → Call → Outcome Concerned
-outcome st (Insert s g v) = shown (λ _. concerns_record s g v) (insert_answer (capacity_of st) (cite s g) st.slots)
-outcome st (Edit s g v) = shown (λ u. concerns_record s g u) (edit_answer v (found season_alike (cite s g) st.slots))
-outcome st (Get s g) = shown (λ u. concerns_record s g u) (value_answer (found season_alike (cite s g) st.slots))
-outcome st (Remove s g) = shown (λ u. concerns_record s g u) (value_answer (found season_alike (cite s g) st.slots))
-outcome st (Trim n) = done (concerns_value (length st.slots - length (trimmed n st.slots)))
-outcome st (Reserve n) = shown (λ _. concerns_value n) (reserve_outcome st n)
-outcome st (Limit n) = shown (λ _. concerns_value n) (limit_answer (length (cut_to n st.slots)) n)
-outcome st Clear = done concerns_nothing
+outcome st (Insert s g v) = shown (λ _. Record s g v) (insert_answer (capacity_of st) (cite s g) st.slots)
+outcome st (Edit s g v) = shown (λ u. Record s g u) (edit_answer v (found season_alike (cite s g) st.slots))
+outcome st (Get s g) = shown (λ u. Record s g u) (value_answer (found season_alike (cite s g) st.slots))
+outcome st (Remove s g) = shown (λ u. Record s g u) (value_answer (found season_alike (cite s g) st.slots))
+outcome st (Trim n) = done (Value (length st.slots - length (trimmed n st.slots)))
+outcome st (Reserve n) = shown (λ _. Value n) (reserve_outcome st n)
+outcome st (Limit n) = shown (λ _. Value n) (limit_answer (length (cut_to n st.slots)) n)
+outcome st Clear = done Nothing
 
 -- the call in the history of the register's arena; a get is none, since it alters nothing
 abbrev pub recorded : Call → Option (history.Call SeasonGen ℕ)
@@ -108,18 +102,16 @@ abbrev pub state_after : State → Call → State
 state_after st c = record { slots = slots_by (recorded c) (outcome st c) st.slots; room = room_after st c; lent = st.lent; limit = limit_after st c }
 
 -- the answer to a line: a call's, or 12 or 13
-abbrev pub answer_to : State → Parsed → Answer
-answer_to st (Asks c) = answer_of (outcome st c) (tally_of (state_after st c))
-answer_to st Unknown = refusal 12 (tally_of st)
-answer_to st Unfit = refusal 13 (tally_of st)
+abbrev pub answer_to : State → Result Call LineError → Reply
+answer_to st (Ok c) = record { verdict = outcome st c; tally = tally_of (state_after st c) }
+answer_to st (Err Unknown) = record { verdict = refused 12; tally = tally_of st }
+answer_to st (Err Unfit) = record { verdict = refused 13; tally = tally_of st }
 
-abbrev pub after_line : State → Parsed → State
-after_line st (Asks c) = state_after st c
-after_line st Unknown = st
-after_line st Unfit = st
+abbrev pub after_line : State → Result Call LineError → State
+after_line st (Ok c) = state_after st c
+after_line st (Err e) = st
 
 -- what the line adds to the history
-abbrev pub adds : State → Parsed → List (Entry SeasonGen ℕ)
-adds st (Asks c) = entries (recorded c) (outcome st c)
-adds st Unknown = []
-adds st Unfit = []
+abbrev pub adds : State → Result Call LineError → List (Entry SeasonGen ℕ)
+adds st (Ok c) = entries (recorded c) (outcome st c)
+adds st (Err e) = []

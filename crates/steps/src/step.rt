@@ -1,22 +1,25 @@
 ghost use Rattle.std.specs.Prelude.{◌≡◌};
-ghost use Rattle.lines.specs.declared.parse.Parsed.TheVariants.{Asks};
-ghost use Rattle.passages.specs.State.{Ready, state_of};
+ghost use Rattle.answers.specs.Refusals.{of_verdict};
+ghost use Rattle.answers.specs.Shown.{reply_of};
+ghost use Rattle.passages.specs.State.{state_of};
 ghost use Rattle.steps.specs.Model.{answer_to, after_line};
 
 use crate::calls;
-use answers::answer::Answer;
+use answers::answer::{Answer, Concerned};
+use answers::refusal::Refusal;
 use lines::call::Call;
-use lines::parse::Parsed;
+use lines::error::LineError;
 use passages::register::{Register, tally};
 
-// Carries out a call that a line asks for.
-fn carry_out(register: &mut Register<'_>, call: Call) -> Answer
-    requires { Ready register.old }
-    ensures answer { result ≡ answer_to (state_of register.old) (Asks call) }
-    ensures after { state_of register.new ≡ after_line (state_of register.old) (Asks call) }
-    ensures ready { Ready register.new }
+// Carries out the call that a line asks for, if it asks for one.
+fn carry_out(
+    register: &mut Register<'_>,
+    line: Result<Call, LineError>,
+) -> Result<Concerned, Refusal>
+    ensures answer { of_verdict result ≡ (answer_to (state_of register.old) line).verdict }
+    ensures after { state_of register.new ≡ after_line (state_of register.old) line }
 {
-    match call {
+    match line? {
         Call::Insert {
             slot,
             generation,
@@ -37,15 +40,13 @@ fn carry_out(register: &mut Register<'_>, call: Call) -> Answer
 }
 
 /// Answers one line: what its call answers, or 12 or 13 where it asks for none.
-pub fn step(register: &mut Register<'_>, line: Parsed) -> Answer
-    requires { Ready register.old }
-    ensures answer { result ≡ answer_to (state_of register.old) line }
+pub fn step(register: &mut Register<'_>, line: Result<Call, LineError>) -> Answer
+    ensures answer { reply_of result ≡ answer_to (state_of register.old) line }
     ensures after { state_of register.new ≡ after_line (state_of register.old) line }
-    ensures ready { Ready register.new }
 {
-    match line {
-        Parsed::Asks(call) => carry_out(register, call),
-        Parsed::Unknown => Answer::refused(12, tally(register)),
-        Parsed::Unfit => Answer::refused(13, tally(register)),
+    let verdict = carry_out(register, line);
+    Answer {
+        verdict,
+        tally: tally(register),
     }
 }

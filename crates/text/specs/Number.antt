@@ -1,9 +1,8 @@
 -- Decimals without leading zeros, and a line's fields.
-use Rattle.std.specs.Prelude.{ℕ, ◌+◌, ◌-◌, ◌*◌, ◌≤◌, cond, List, [], ◌∷◌, Some, None, codes, Option, ◌==◌, nat_le}
+use Rattle.std.specs.Prelude.{ℕ, ◌+◌, ◌-◌, ◌*◌, ◌≤◌, cond, List, [], ◌∷◌, Some, None, Ok, Err, codes, Option, Result, ◌==◌, nat_le}
 use Rattle.std.specs.Char.{is_ascii_digit}
 use Rattle.std.specs.Str.{bytes_eq}
-use Rattle.text.specs.declared.number.Field.{Field}
-use Rattle.text.specs.declared.number.Field.TheVariants.{Number, Blank, Wrong}
+use Rattle.text.specs.declared.number.FieldError.{FieldError}
 
 -- the number that n and then these digits write
 abbrev pub read_on : ℕ → List ℕ → Option ℕ
@@ -20,14 +19,16 @@ abbrev pub within : ℕ → Option ℕ → Option ℕ
 within most None = None
 within most (Some n) = cond (nat_le n most) (Some n) None
 
-abbrev pub number_or : Option ℕ → Field
-number_or (Some n) = Number n
-number_or None = Wrong
+-- a field holds a number, or it is unfit
+abbrev pub number_or : Option ℕ → Result (Option ℕ) FieldError
+number_or (Some n) = Ok (Some n)
+number_or None = Err (record {})
 
-abbrev pub field_of : ℕ → List ℕ → Field
-field_of most bs = cond (bytes_eq bs (codes "-")) Blank (number_or (within most (numeral bs)))
+-- a blank has no number
+abbrev pub field_of : ℕ → List ℕ → Result (Option ℕ) FieldError
+field_of most bs = cond (bytes_eq bs (codes "-")) (Ok None) (number_or (within most (numeral bs)))
 
-abbrev pub AtMost : ℕ → Field → Type 0
-AtMost most (Number n) = n ≤ most
-AtMost most Blank = Unit {0}
-AtMost most Wrong = Unit {0}
+abbrev pub AtMost : ℕ → Result (Option ℕ) FieldError → Type 0
+AtMost most (Ok (Some n)) = n ≤ most
+AtMost most (Ok None) = Unit {0}
+AtMost most (Err e) = Unit {0}

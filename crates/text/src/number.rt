@@ -35,24 +35,18 @@ pub fn number(bytes: &[u8], most: u32) -> Option<u32>
     }
 }
 
-/// A field of a line. `Wrong` is kept apart from `Blank`, which some calls want.
-#[derive(Clone, Copy, Drop)]
-pub enum Field {
-    Number(u32),
-    Blank,
-    Wrong,
-}
+/// A field that is neither a number in range nor a blank.
+#[derive(Clone, Copy, Debug, Drop, PartialEq, Eq)]
+pub struct FieldError;
 
+/// A field's number, or None for a blank, which some calls want.
 /// The bound comes from the caller: slots have 16 bits, generations and values 32.
-pub fn read_field(bytes: &[u8], most: u32) -> Field
+pub fn read_field(bytes: &[u8], most: u32) -> Result<Option<u32>, FieldError>
     ensures reads { result ≡ field_of most bytes.now }
     ensures small { AtMost most result }
 {
     if is_word(bytes, b"-") {
-        return Field::Blank;
+        return Ok(None);
     }
-    match number(bytes, most) {
-        Some(n) => Field::Number(n),
-        None => Field::Wrong,
-    }
+    number(bytes, most).map(Some).ok_or(FieldError)
 }

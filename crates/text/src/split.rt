@@ -1,19 +1,23 @@
 // Bytes split at a byte.
-ghost use Rattle.std.specs.Prelude.{◌≡◌, ◌<◌, [], ◌∷◌, length, IfSome, Some, None, MatchOption};
+ghost use Rattle.std.specs.Prelude.{◌≡◌, ◌==◌, ◌<◌, [], ◌∷◌, length, position, IfSome, Some, None, MatchOption};
+ghost use Rattle.std.specs.Iterator.{YieldsFirstRef, item_count};
 ghost use Rattle.text.specs.Fields.{four_in_some};
 ghost use Rattle.text.specs.Split.{split, four_of, lines_of};
+
+// Where the byte `at` first stands.
+fn first_index(bytes: &[u8], at: u8) -> Option<usize>
+    ensures { result ≡ position (λ b. b == at) bytes.now }
+{
+    bytes.iter().position(|b| *b == at)
+}
 
 /// Fields and lines are both cut by this: what stands before the first byte `at`, and after it.
 pub fn split_once(bytes: &[u8], at: u8) -> Option<(&[u8], &[u8])>
     ensures parts { MatchOption result (split at bytes.now ≡ bytes.now ∷ []) (λ p. split at bytes.now ≡ p.0.now ∷ split at p.1.now) }
     ensures shorter { IfSome result (λ p. length p.1.now < length bytes.now) }
 {
-    for (i, b) in bytes.iter().enumerate() {
-        if *b == at {
-            return Some((&bytes[..i], &bytes[i + 1..]));
-        }
-    }
-    None
+    let i = first_index(bytes, at)?;
+    Some((&bytes[..i], &bytes[i + 1..]))
 }
 
 /// The four parts of a line, as they stand in it.
@@ -32,25 +36,53 @@ pub fn four_fields(line: &[u8]) -> Option<Fields<'_>>
     let (call, rest) = split_once(line, b' ')?;
     let (slot, rest) = split_once(rest, b' ')?;
     let (generation, value) = split_once(rest, b' ')?;
-    match split_once(value, b' ') {
-        Some(_) => None,
-        None => Some(Fields {
-            call,
-            slot,
-            generation,
-            value,
-        }),
+    if split_once(value, b' ').is_some() {
+        return None;
+    }
+    Some(Fields {
+        call,
+        slot,
+        generation,
+        value,
+    })
+}
+
+/// The first line of a text and the rest, or None where there is no line. Byte 10 ends a line, and the last may lack it.
+pub fn first_line(text: &[u8]) -> Option<(&[u8], &[u8])>
+    ensures first { MatchOption result (lines_of text.now ≡ []) (λ p. lines_of text.now ≡ p.0.now ∷ lines_of p.1.now) }
+    ensures shorter { IfSome result (λ p. length p.1.now < length text.now) }
+{
+    if text.is_empty() {
+        return None;
+    }
+    Some(split_once(text, b'\n').unwrap_or((text, &[])))
+}
+
+/// The lines of a text, each without its byte 10.
+#[derive(Clone, Copy, Drop)]
+pub struct Lines<'a> {
+    rest: &'a [u8],
+}
+
+impl<'a> Lines<'a> {
+    /// All lines of `text`, first to last.
+    pub fn new(text: &'a [u8]) -> Self
+        ensures { lines_of result.rest.now ≡ lines_of text.now }
+    {
+        Lines { rest: text }
     }
 }
 
-/// The first line of a text and the rest. Byte 10 ends a line, and the last line may lack it.
-pub fn first_line(text: &[u8]) -> (&[u8], &[u8])
-    requires { 0 < length text.now }
-    ensures first { lines_of text.now ≡ result.0.now ∷ lines_of result.1.now }
-    ensures shorter { length result.1.now < length text.now }
-{
-    match split_once(text, b'\n') {
-        Some((line, rest)) => (line, rest),
-        None => (text, &[]),
+impl<'a> Iterator for Lines<'a> {
+    type Item = &'a [u8];
+
+    ghost next_gives = { YieldsFirstRef (λ s. lines_of s.rest.now) };
+
+    ghost remaining = { item_count (λ s. lines_of s.rest.now) };
+
+    fn next(&mut self) -> Option<&'a [u8]> {
+        let (line, rest) = first_line(self.rest)?;
+        self.rest = rest;
+        Some(line)
     }
 }

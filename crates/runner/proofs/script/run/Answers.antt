@@ -15,17 +15,16 @@ returns c =
       after = e.after;
       led = subst (λ (st : State). Led old script st) (sym e.after) (script_leads old script);
       stopped = stopped_there old _ script c.add_report.ensures.reached;
-      ready = c.add_report.ensures.ready;
     }
 
 pub returns-in_err-out : goal.returns-in_err-out
 returns-in_err-out c =
     let old = state_of c.args.register.now in
     let script = script_of c.args.input.now in
-    record { text = search rules; after = search rules; led = search rules; stopped = stopped_there old old script (none_reached old (lines_by script)); ready = c.requires }
+    record { text = search rules; after = search rules; led = search rules; stopped = stopped_there old old script (none_reached old (lines_by script)) }
 
 pub returns-in_err-add_report : goal.returns-in_err-add_report
 returns-in_err-add_report c =
     let old = state_of c.args.register.now in
     let script = script_of c.args.input.now in
-    record { text = search rules; after = search rules; led = search rules; stopped = stopped_there old _ script c.add_report.ensures.reached; ready = c.add_report.ensures.ready }
+    record { text = search rules; after = search rules; led = search rules; stopped = stopped_there old _ script c.add_report.ensures.reached }

@@ -7,18 +7,20 @@ loop-popped-preserved g c =
     let s = g.S.NonZeroInxGenericStack.list in
     let k = c.loop-popped.invariant in
     let p = c.pop.ensures in
-    (p.stands, p.kept ∙ k.1, trim_more c.args.num c.loop-popped.popped (s c.args.m.now) (s c.loop-popped.m) k.2 (s c.pop.new.self) c.loop-popped-test.true c.if-ends_free.ensures p.slots)
+    record {
+      kept = p.kept ∙ k.kept;
+      trimming = trim_more c.args.num c.loop-popped.popped (s c.args.m.now) (s c.loop-popped.m) k.trimming (s c.pop.new.self) c.loop-popped-test.true c.if-not-ends_free.ensures p.slots;
+    }
 
-pub returns-else-ends_free : goal.returns-else-ends_free
-returns-else-ends_free g c =
+pub returns-then-not-ends_free : goal.returns-then-not-ends_free
+returns-then-not-ends_free g c =
     let s = g.S.NonZeroInxGenericStack.list in
     let k = c.loop-popped.invariant in
-    let e = trim_held c.args.num c.loop-popped.popped (s c.args.m.now) (s c.loop-popped.m) k.2 c.if-ends_free.ensures in
+    let e = trim_held c.args.num c.loop-popped.popped (s c.args.m.now) (s c.loop-popped.m) k.trimming c.if-not-ends_free.ensures in
     record {
-      answer = trim_count c.args.num c.loop-popped.popped (s c.args.m.now) (s c.loop-popped.m) k.2 e;
+      answer = trim_count c.args.num c.loop-popped.popped (s c.args.m.now) (s c.loop-popped.m) k.trimming e;
       slots = e;
-      counted = k.2.counted;
-      long = omega (arith, k.2.gone);
-      kept = k.1;
-      stands = k.0;
+      counted = k.trimming.counted;
+      long = omega (arith, k.trimming.gone);
+      kept = k.kept;
     }

@@ -1,9 +1,6 @@
 use Rattle.std.proofs.Common.{rules}
-use Rattle.stack.proofs.Places.{slot_front, slot_none, slot_past, put_front, put_none, put_past}
+use Rattle.std.proofs.Math.Seq.{take-set-lt}
 use Rattle.stack.proofs.lent.replace_slot.Goals as goal
 
-pub returns-then-n-len : goal.returns-then-n-len
-returns-then-n-len g c = search (rules, slot_front, put_front)
-
-pub returns-else-n-ge1 : goal.returns-else-n-ge1
-returns-else-n-ge1 g c = search (rules, slot_none, slot_past, put_none, put_past)
+pub returns-clause-slots : goal.returns-clause-slots
+returns-clause-slots g c = search (rules, take-set-lt)

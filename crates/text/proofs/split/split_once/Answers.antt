@@ -1,13 +1,11 @@
-use Rattle.std.proofs.Common.{rules}
-use Rattle.std.proofs.lemmas.List.{take_rest, places}
-use Rattle.text.proofs.Splits.{one_more, found, nowhere}
+use Rattle.std.proofs.Common.{sym, ◌∙◌}
+use Rattle.std.proofs.lemmas.List.{take_rest}
+use Rattle.text.proofs.Splits.{found, nowhere}
 use Rattle.text.proofs.split.split_once.Goals as goal
 
-pub loop-i-preserved : goal.loop-i-preserved
-loop-i-preserved c = one_more _ c.loop-i-test.true c.if-b-at.false c.loop-i.invariant
+pub returns-in_err-i-clause-parts : goal.returns-in_err-i-clause-parts
+returns-in_err-i-clause-parts c =
+    rw c.from_residual.ensures (nowhere _ _ (sym c.first_index.ensures ∙ c.in_err-i.was))
 
-pub returns-then-b-at : goal.returns-then-b-at
-returns-then-b-at c = record { parts = rw take_rest (found _ c.loop-i-test.true c.if-b-at.true c.loop-i.invariant); shorter = search (rules, places) }
-
-pub returns : goal.returns
-returns c = record { parts = nowhere _ c.loop-i-test.false c.loop-i.invariant; shorter = tt }
+pub returns-clause-parts : goal.returns-clause-parts
+returns-clause-parts c = rw take_rest (found _ _ c.in_ok-i.i (sym c.first_index.ensures ∙ c.in_ok-i.was)).0

@@ -1,5 +1,7 @@
+use Rattle.std.proofs.Common.{◌∙◌, ap}
+use Rattle.history.specs.Slots.{count}
 use Rattle.history.proofs.Runs.{lawful}
 use Rattle.arena.proofs.arena.DirectArena.len.Goals as goal
 
-pub returns : goal.returns
-returns g c = record { number = c.requires.counted; lawful = lawful _ _ _ c.requires.counted }
+pub returns-clause-lawful : goal.returns-clause-lawful
+returns-clause-lawful g c = lawful _ _ _ (c.self.invariant.0 ∙ ap (λ m. count (g.S.NonZeroInxGenericStack.list m)) c.self.view_is)

@@ -1,0 +1,13 @@
+use Rattle.std.proofs.Common.{arith}
+use Rattle.lines.proofs.Names.{spelled}
+use Rattle.lines.specs.declared.verb.Verb.TheVariants.{Insert, Remove, Reserve}
+use Rattle.lines.proofs.verb.VerbTryFromRefSliceU8.try_from.Goals as goal
+
+pub returns-in-insert : goal.returns-in-insert
+returns-in-insert c = spelled Insert c.args.name.now (omega arith, (omega arith, (omega arith, (omega arith, (omega arith, (omega arith, omega arith))))))
+
+pub returns-in-remove : goal.returns-in-remove
+returns-in-remove c = spelled Remove c.args.name.now (omega arith, (omega arith, (omega arith, (omega arith, (omega arith, (omega arith, omega arith))))))
+
+pub returns-in-reserve : goal.returns-in-reserve
+returns-in-reserve c = spelled Reserve c.args.name.now (omega arith, (omega arith, (omega arith, (omega arith, (omega arith, (omega arith, (omega arith, omega arith)))))))
