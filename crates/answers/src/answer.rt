@@ -6,7 +6,7 @@ use crate::refusal::Refusal;
 use std::fmt;
 
 /// The pointer and the value that a call was about.
-#[derive(Clone, Copy, Debug, Drop, PartialEq, Eq)]
+#[derive(Clone, Copy, Debug, PartialEq, Eq)]
 pub enum Concerned {
     Record {
         slot: u16,
@@ -18,7 +18,7 @@ pub enum Concerned {
 }
 
 /// How much is held after the call, refused or not.
-#[derive(Clone, Copy, Debug, Drop, PartialEq, Eq)]
+#[derive(Clone, Copy, Debug, PartialEq, Eq)]
 pub struct Tally {
     pub count: usize,
     pub slots: usize,
@@ -26,7 +26,7 @@ pub struct Tally {
 }
 
 /// One answer, for one line.
-#[derive(Clone, Copy, Debug, Drop, PartialEq, Eq)]
+#[derive(Clone, Copy, Debug, PartialEq, Eq)]
 pub struct Answer {
     pub verdict: Result<Concerned, Refusal>,
     pub tally: Tally,

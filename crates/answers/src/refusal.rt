@@ -7,7 +7,7 @@ use outcome::{DirectInsertionError, MaxCapacityReductionError, ReallocationError
 use std::fmt;
 
 /// Why a call was refused. Numbers 4, 5, 9 and 10 belong to calls that are still to come.
-#[derive(Clone, Copy, Debug, Drop, PartialEq, Eq)]
+#[derive(Clone, Copy, Debug, PartialEq, Eq)]
 pub enum Refusal {
     NotWithinCapacity = 1,
     SlotTaken = 2,
@@ -22,11 +22,11 @@ pub enum Refusal {
 }
 
 impl Refusal {
-    /// A refusal is told by its number alone.
+    /// The number under which the rules, and a report, know it.
     pub fn number(self) -> u8
         ensures { result ≡ number_of self }
     {
-        self as u8
+        self as u8 // how a discriminant is read
     }
 }
 

@@ -33,14 +33,13 @@ impl<P: Ptr, V: Copy, S: NonZeroInxGenericStack<Slot = DirectSlot<P::Gen, V>>> D
     S,
 > {
     /// An empty arena: whatever stood in the stack is cleared.
-    pub fn new(stack: S) -> Self
+    pub fn new(mut stack: S) -> Self
         ensures slots { S.list result ≡ [] }
         ensures kept { S.config result ≡ S.config stack }
     {
-        let mut m = stack;
-        m.clear();
+        stack.clear();
         DirectArena {
-            m,
+            m: stack,
             len: 0,
             of: PhantomData,
         }
@@ -69,9 +68,10 @@ impl<P: Ptr, V: Copy, S: NonZeroInxGenericStack<Slot = DirectSlot<P::Gen, V>>> D
         self.len == 0
     }
 
-    /// How many slots there are, free ones included.
+    /// How many slots there are, free ones included; each has an index.
     pub fn slots(&self) -> usize
-        ensures { result ≡ length (S.list self.now) }
+        ensures number { result ≡ length (S.list self.now) }
+        ensures indexed { result ≤ P.Inx.largest }
     {
         self.m.len()
     }

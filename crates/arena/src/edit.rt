@@ -1,4 +1,6 @@
-ghost use Rattle.std.specs.Prelude.{◌≡◌};
+ghost use Rattle.std.specs.Prelude.{◌≡◌, true};
+ghost use Rattle.kinds.specs.declared.slot.DirectSlot.TheVariants.{Free, Allocated};
+ghost use Rattle.history.specs.Slots.{at, is_held, write};
 ghost use Rattle.kinds.specs.Places.{or_zero};
 ghost use Rattle.outcome.specs.Outcome.{of_found, of_invalidation};
 ghost use Rattle.history.specs.Calls.{index as by_index, pointer as by_pointer, edit as editing, remove as removal, entry, Step};
@@ -16,6 +18,25 @@ impl<P: Ptr, V: Copy, S: NonZeroInxGenericStack<Slot = DirectSlot<P::Gen, V>>> D
     V,
     S,
 > {
+    // an edit by pointer and one by index come here with the record that they found
+    fn put(&mut self, slot: usize, generation: P::Gen, v: V)
+        requires { is_held (at slot (S.list self.old)) ≡ true }
+        ensures slots { S.list self.new ≡ write slot (Allocated generation v) (S.list self.old) }
+        ensures kept { S.config self.new ≡ S.config self.old }
+    {
+        overwrite(&mut self.m, slot, DirectSlot::Allocated(generation, v));
+    }
+
+    // the same for removals: the count goes down with the slot, so that it stays that of the allocated ones
+    fn free(&mut self, slot: usize)
+        requires { is_held (at slot (S.list self.old)) ≡ true }
+        ensures slots { S.list self.new ≡ write slot Free (S.list self.old) }
+        ensures kept { S.config self.new ≡ S.config self.old }
+    {
+        overwrite(&mut self.m, slot, DirectSlot::Free);
+        self.len -= 1;
+    }
+
     /// Puts a new value into the record that `p` cites, and answers it.
     pub fn edit(&mut self, p: P, v: V) -> Option<V>
         ensures answer { of_found result ≡ edit_answer v (found P.Gen.eq (cited P.Inx.number P.index P.mark p) (S.list self.old)) }
@@ -23,14 +44,11 @@ impl<P: Ptr, V: Copy, S: NonZeroInxGenericStack<Slot = DirectSlot<P::Gen, V>>> D
         ensures kept { S.config self.new ≡ S.config self.old }
     {
         let found = self.find(p)?;
-        overwrite(
-            &mut self.m,
-            found.slot,
-            DirectSlot::Allocated(found.generation, v),
-        );
+        self.put(found.slot, found.generation, v);
         Some(v)
     }
 
+    // by pointer and by index, here and below: see `find.rt`
     /// The same by index: the generation is not asked for, and comes with the value.
     pub fn edit_inx(&mut self, inx: P::Inx, v: V) -> Option<(P::Gen, V)>
         ensures answer { of_found result ≡ edit_pair_answer v (named (or_zero (P.Inx.number inx)) (S.list self.old)) }
@@ -38,11 +56,7 @@ impl<P: Ptr, V: Copy, S: NonZeroInxGenericStack<Slot = DirectSlot<P::Gen, V>>> D
         ensures kept { S.config self.new ≡ S.config self.old }
     {
         let found = self.find_inx(inx)?;
-        overwrite(
-            &mut self.m,
-            found.slot,
-            DirectSlot::Allocated(found.generation, v),
-        );
+        self.put(found.slot, found.generation, v);
         Some((found.generation, v))
     }
 
@@ -55,8 +69,7 @@ impl<P: Ptr, V: Copy, S: NonZeroInxGenericStack<Slot = DirectSlot<P::Gen, V>>> D
         let Some(found) = self.find(p) else {
             return InvalidationResult::InvalidPtr;
         };
-        overwrite(&mut self.m, found.slot, DirectSlot::Free);
-        self.len -= 1;
+        self.free(found.slot);
         InvalidationResult::Success(found.value)
     }
 
@@ -69,8 +82,7 @@ impl<P: Ptr, V: Copy, S: NonZeroInxGenericStack<Slot = DirectSlot<P::Gen, V>>> D
         let Some(found) = self.find_inx(inx) else {
             return InvalidationResult::InvalidPtr;
         };
-        overwrite(&mut self.m, found.slot, DirectSlot::Free);
-        self.len -= 1;
+        self.free(found.slot);
         InvalidationResult::Success((found.generation, found.value))
     }
 }

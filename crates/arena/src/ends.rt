@@ -22,6 +22,7 @@ impl<P: Ptr, V: Copy, S: NonZeroInxGenericStack<Slot = DirectSlot<P::Gen, V>>> D
     V,
     S,
 > {
+    // First and last are two calls under the Rust crate's names, kept by a rule of this project.
     /// The pointer of the record in the lowest slot; none where no record stands.
     pub fn find_first_inx_ptr(&self) -> Option<P>
         ensures pointer { result ≡ pointer_of (λ n γ. P.made (P.Inx.indexed n) γ) (first_of (held 1 (S.list self.now))) }

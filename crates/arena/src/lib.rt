@@ -1,5 +1,5 @@
 //! The arena: records under pointers in the slots of any stack, and every call on one record.
-//! It uses `kinds`, `history`, `slots` and the traits of `stack`, and knows no stack of its own, no text and no program.
+//! It uses `kinds`, `invalidation`, `outcome`, `history`, `slots` and `stack`'s traits; it knows no stack and no text.
 //! Each call that may alter an arena promises the step that histories are made of; `len` carries the laws over them.
 
 #![tactic(auto)]

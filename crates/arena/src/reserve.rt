@@ -25,14 +25,22 @@ impl<P: Ptr, V: Copy, S: NonZeroInxGenericStack<Slot = DirectSlot<P::Gen, V>>> D
         pop_free(&mut self.m, num)
     }
 
+    // a reallocation and a new limit both cut the free end first, and it stays cut when they are refused
+    fn trim_to(&mut self, n: usize)
+        ensures slots { S.list self.new ≡ trimmed (length (S.list self.old) - n) (S.list self.old) }
+        ensures kept { S.config self.new ≡ S.config self.old }
+    {
+        let excess = self.m.len().saturating_sub(n);
+        let _ = self.pop_free_end_slots(excess);
+    }
+
     /// Asks the stack for room for `min_capacity` slots. Free slots beyond it are popped first, and stay popped when
     /// the request is refused.
     pub fn reallocate_min_capacity(&mut self, min_capacity: usize) -> Result<(), ReallocationError>
         ensures step { Step P.Gen.eq (entry (reallocate min_capacity) (of_reallocation result)) (S.list self.old) (S.list self.new) }
         ensures grown { Reallocated S.regrown (nat_lt P.Inx.largest min_capacity) (S.config self.old) (length (S.list self.new)) min_capacity (of_reallocation result) (S.config self.new) }
     {
-        let excess = self.m.len().saturating_sub(min_capacity);
-        let _ = self.pop_free_end_slots(excess);
+        self.trim_to(min_capacity);
         if min_capacity > P::Inx::max_index() {
             return Err(ReallocationError::AllocError);
         }
@@ -48,8 +56,7 @@ impl<P: Ptr, V: Copy, S: SetMaxCapacity<Slot = DirectSlot<P::Gen, V>>> DirectAre
         ensures limited { Relimited S.list S.config S.relimited max_capacity self.old self.new }
         ensures bounded { Bounded S.room S.limit (length (S.list self.new)) max_capacity (S.config self.old) (S.config self.new) }
     {
-        let excess = self.m.len().saturating_sub(max_capacity);
-        let _ = self.pop_free_end_slots(excess);
+        self.trim_to(max_capacity);
         self.m.set_max_capacity(max_capacity)
     }
 }

@@ -32,33 +32,25 @@ mod tests {
         }
     }
 
-    // The refusal's number, or 0.
-    fn insertion(r: Result<(), DirectInsertionError>) -> u8 {
-        match r {
-            Ok(()) => 0,
-            Err(DirectInsertionError::NotWithinCapacity) => 1,
-            Err(DirectInsertionError::ExistingElementAtIndex) => 2,
-        }
-    }
-
-    fn growth(r: Result<(), ReallocationError>) -> u8 {
-        match r {
-            Ok(()) => 0,
-            Err(ReallocationError::BeyondMaxCapacity) => 6,
-            Err(ReallocationError::AllocError) => 7,
-        }
-    }
-
     #[test]
     fn insertions_at_the_capacity(rt: HostRuntime) {
         let mut lent = [DirectSlot::<SeasonGen, u32>::Free; 8];
         let mut a = DirectArena::<PtrOf<ShortInx, SeasonGen>, u32, _>::new(FixedStack::new(
             &mut lent,
         ));
-        assert!(rt; insertion(a.direct_insert_within_capacity(of(0, 1), 10)) == 1);
-        assert!(rt; insertion(a.direct_insert_within_capacity(of(9, 1), 10)) == 1);
-        assert!(rt; insertion(a.direct_insert_within_capacity(of(8, 1), 80)) == 0);
-        assert!(rt; insertion(a.direct_insert_within_capacity(of(8, 2), 81)) == 2);
+        assert!(rt;
+            a.direct_insert_within_capacity(of(0, 1), 10)
+                == Err(DirectInsertionError::NotWithinCapacity)
+        );
+        assert!(rt;
+            a.direct_insert_within_capacity(of(9, 1), 10)
+                == Err(DirectInsertionError::NotWithinCapacity)
+        );
+        assert!(rt; a.direct_insert_within_capacity(of(8, 1), 80) == Ok(()));
+        assert!(rt;
+            a.direct_insert_within_capacity(of(8, 2), 81)
+                == Err(DirectInsertionError::ExistingElementAtIndex)
+        );
         assert!(rt; a.remove(of(8, 1)).is_success());
         assert!(rt; a.slots() == 8 && a.is_empty());
     }
@@ -69,9 +61,12 @@ mod tests {
         let mut a = DirectArena::<PtrOf<ShortInx, SeasonGen>, u32, _>::new(FixedStack::new(
             &mut lent,
         ));
-        assert!(rt; insertion(a.direct_insert_within_capacity(of(2, 1), 20)) == 0);
-        assert!(rt; insertion(a.direct_insert_within_capacity(of(1, 1), 10)) == 0);
-        assert!(rt; insertion(a.direct_insert_within_capacity(of(3, 1), 30)) == 1);
+        assert!(rt; a.direct_insert_within_capacity(of(2, 1), 20) == Ok(()));
+        assert!(rt; a.direct_insert_within_capacity(of(1, 1), 10) == Ok(()));
+        assert!(rt;
+            a.direct_insert_within_capacity(of(3, 1), 30)
+                == Err(DirectInsertionError::NotWithinCapacity)
+        );
         assert!(rt; a.len() == a.capacity());
     }
 
@@ -81,20 +76,12 @@ mod tests {
         let mut a = DirectArena::<PtrOf<ShortInx, SeasonGen>, u32, _>::new(FixedStack::new(
             &mut lent,
         ));
-        assert!(rt; insertion(a.direct_insert_within_capacity(of(3, 6), 60)) == 0);
+        assert!(rt; a.direct_insert_within_capacity(of(3, 6), 60) == Ok(()));
         assert!(rt; a.edit(of(3, 5), 9).is_none());
-        assert!(rt;
-            matches!(
-                a.edit_inx(short(3), 61),
-                Some((SeasonGen { season: 6 }, 61))
-            )
-        );
+        assert!(rt; a.edit_inx(short(3), 61) == Some((SeasonGen { season: 6 }, 61)));
         assert!(rt; a.edit_inx(short(4), 9).is_none());
         assert!(rt;
-            matches!(
-                a.remove_inx(short(3)),
-                InvalidationResult::Success((SeasonGen { season: 6 }, 61))
-            )
+            a.remove_inx(short(3)) == InvalidationResult::Success((SeasonGen { season: 6 }, 61))
         );
         assert!(rt; a.remove_inx(short(3)).is_invalid());
     }
@@ -106,25 +93,21 @@ mod tests {
             &mut lent,
         ));
         assert!(rt; a.find_first_inx_ptr().is_none());
-        assert!(rt; insertion(a.direct_insert_within_capacity(of(5, 3), 50)) == 0);
-        assert!(rt; insertion(a.direct_insert_within_capacity(of(3, 2), 30)) == 0);
+        assert!(rt; a.direct_insert_within_capacity(of(5, 3), 50) == Ok(()));
+        assert!(rt; a.direct_insert_within_capacity(of(3, 2), 30) == Ok(()));
         assert!(rt;
-            matches!(
-                a.find_first_inx_ptr(),
-                Some(PtrOf {
+            a.find_first_inx_ptr()
+                == Some(PtrOf {
                     inx: ShortInx { raw: 3 },
                     generation: SeasonGen { season: 2 }
                 })
-            )
         );
         assert!(rt;
-            matches!(
-                a.find_last_inx_ptr(),
-                Some(PtrOf {
+            a.find_last_inx_ptr()
+                == Some(PtrOf {
                     inx: ShortInx { raw: 5 },
                     generation: SeasonGen { season: 3 }
                 })
-            )
         );
     }
 
@@ -132,13 +115,13 @@ mod tests {
     fn a_slab_grows_up_to_what_is_lent(rt: HostRuntime) {
         let mut lent = [DirectSlot::<SeasonGen, u32>::Free; 8];
         let mut slab = SlabStack::with_min_capacity(&mut lent, 3);
-        assert!(rt; growth(slab.test(8)) == 0);
-        assert!(rt; growth(slab.test(9)) == 7);
+        assert!(rt; slab.test(8) == Ok(()));
+        assert!(rt; slab.test(9) == Err(ReallocationError::AllocError));
         assert!(rt; slab.capacity() == 3);
-        assert!(rt; growth(slab.reallocate_min_capacity(4)) == 0);
+        assert!(rt; slab.reallocate_min_capacity(4) == Ok(()));
         assert!(rt; slab.capacity() == 6);
-        assert!(rt; growth(slab.reallocate_min_capacity(9)) == 7);
-        assert!(rt; growth(slab.reallocate_min_capacity(0)) == 0);
+        assert!(rt; slab.reallocate_min_capacity(9) == Err(ReallocationError::AllocError));
+        assert!(rt; slab.reallocate_min_capacity(0) == Ok(()));
         assert!(rt; slab.capacity() == 0);
     }
 
@@ -160,45 +143,36 @@ mod tests {
         let mut a = DirectArena::<PtrOf<SheetInx, Unmarked>, u32, _>::new(LimitedStack::new(
             FixedStack::new(&mut lent),
         ));
-        assert!(rt; insertion(a.direct_insert_within_capacity(on(0, 8), 80)) == 0);
-        assert!(rt; matches!(a.get(on(0, 8)), Some(80)));
-        assert!(rt; insertion(a.direct_insert_within_capacity(on(0, 0), 1)) == 1);
+        assert!(rt; a.direct_insert_within_capacity(on(0, 8), 80) == Ok(()));
+        assert!(rt; a.get(on(0, 8)) == Some(80));
+        assert!(rt;
+            a.direct_insert_within_capacity(on(0, 0), 1)
+                == Err(DirectInsertionError::NotWithinCapacity)
+        );
         assert!(rt; a.get(on(40, 1)).is_none());
-        assert!(rt; growth(a.reallocate_min_capacity(8_000)) == 6);
-        assert!(rt; growth(a.reallocate_min_capacity(8_001)) == 7);
+        assert!(rt; a.reallocate_min_capacity(8_000) == Err(ReallocationError::BeyondMaxCapacity));
+        assert!(rt; a.reallocate_min_capacity(8_001) == Err(ReallocationError::AllocError));
     }
 
     #[test]
     fn index_kinds_at_their_ends(rt: HostRuntime) {
-        assert!(rt;
-            matches!(
-                ShortInx::try_from_usize(65_535),
-                Some(ShortInx { raw: 65_535 })
-            )
-        );
+        assert!(rt; ShortInx::try_from_usize(65_535) == Some(ShortInx { raw: 65_535 }));
         assert!(rt; ShortInx::try_from_usize(65_536).is_none());
         assert!(rt; ShortInx::try_from_usize(0).is_none());
-        assert!(rt; matches!(short(65_535).try_into_usize(), Some(65_535)));
+        assert!(rt; short(65_535).try_into_usize() == Some(65_535));
         assert!(rt; short(0).try_into_usize().is_none());
         assert!(rt;
-            matches!(
-                SheetInx::try_from_usize(8_000),
-                Some(SheetInx {
+            SheetInx::try_from_usize(8_000)
+                == Some(SheetInx {
                     sheet: 39,
                     line: 200
                 })
-            )
         );
         assert!(rt; SheetInx::try_from_usize(8_001).is_none());
         assert!(rt; SheetInx::try_from_usize(0).is_none());
-        assert!(rt; matches!(on(39, 200).inx.try_into_usize(), Some(8_000)));
-        assert!(rt; matches!(on(1, 1).inx.try_into_usize(), Some(201)));
-        assert!(rt;
-            matches!(
-                SheetInx::try_from_usize(201),
-                Some(SheetInx { sheet: 1, line: 1 })
-            )
-        );
+        assert!(rt; on(39, 200).inx.try_into_usize() == Some(8_000));
+        assert!(rt; on(1, 1).inx.try_into_usize() == Some(201));
+        assert!(rt; SheetInx::try_from_usize(201) == Some(SheetInx { sheet: 1, line: 1 }));
     }
 
     #[test]
@@ -206,10 +180,10 @@ mod tests {
         let mut lent = [DirectSlot::<SeasonGen, u32>::Free; 4];
         let below = LimitedStack::new(SlabStack::with_min_capacity(&mut lent, 3));
         let mut a = DirectArena::<PtrOf<ShortInx, SeasonGen>, u32, _>::new(below);
-        assert!(rt; insertion(a.direct_insert_within_capacity(of(2, 9), 20)) == 0);
+        assert!(rt; a.direct_insert_within_capacity(of(2, 9), 20) == Ok(()));
         let slots = a.into_stack().into_inner().into_slots();
         assert!(rt; slots.len() == 4);
-        assert!(rt; matches!(slots[0], DirectSlot::Free));
-        assert!(rt; matches!(slots[1], DirectSlot::Allocated(SeasonGen { season: 9 }, 20)));
+        assert!(rt; slots[0] == DirectSlot::Free);
+        assert!(rt; slots[1] == DirectSlot::Allocated(SeasonGen { season: 9 }, 20));
     }
 }

@@ -1,8 +1,7 @@
 -- The slots are those of the lines, in their order, and stay so under each call.
-use Rattle.std.proofs.Common.{◌≡◌, ℕ, zero, suc, ◌+◌, ◌-◌, ◌<◌, Bool, true, false, ◌&&◌, leb, List, [], ◌∷◌, length, sym, refl, ap, ◌∙◌, arith}
+use Rattle.std.proofs.Common.{◌≡◌, ℕ, zero, suc, ◌+◌, ◌-◌, ◌<◌, Bool, true, false, ◌&&◌, leb, List, [], ◌∷◌, length, refl, arith}
 use Rattle.std.specs.List.{slice_get}
-use Rattle.std.proofs.lemmas.Bool.{lt-ltb, le-ltb, eq-eqb, ne_eqb, and_parts}
-use Rattle.kinds.specs.declared.slot.DirectSlot.{DirectSlot}
+use Rattle.std.proofs.lemmas.Bool.{le-ltb, eq-eqb, ne_eqb}
 use Rattle.kinds.specs.declared.slot.DirectSlot.TheVariants.{Free, Allocated}
 use Rattle.history.specs.Slots.{Slots, or_free, at, is_free, with_value, place, write, pop_free, trimmed}
 use Rattle.history.specs.Calls.{slot_of, Call, insert, edit, remove, clear, trim, reallocate, limit, Entry, after, asks, Step}
@@ -20,29 +19,23 @@ pub data Agrees (G V : Type 0) : ℕ → Slots G V → List (Line G V) → Type 
 full' : {G V : Type 0} {k m i : ℕ} {g : G} {v : V} {s : Slots G V} {ls : List (Line G V)} → m ≡ k → Agrees G V (suc k) s ls → Agrees G V k (Allocated g v ∷ s) (line i m g v ∷ ls)
 full' e a = rw e (full a)
 
-pub at_suc : {G V : Type 0} (i : ℕ) (s : Slots G V) → at (suc i) s ≡ or_free (slice_get s i)
-at_suc i s =
-    let q : suc i - 1 ≡ i = omega arith in
-    let t : true ≡ leb 1 (suc i) = grind arith in
-    rw (q, ← t)
-
 enter_first : {G V : Type 0} {k : ℕ} {s : Slots G V} {ls : List (Line G V)} → (l : Line G V) → l.stand.slot < k → Agrees G V k s ls → enter l ls ≡ l ∷ ls
 enter_first l h none = refl
 enter_first l h (free a) = enter_first l (omega arith) a
-enter_first l h (full {k = k} a) = rw (lt-ltb l.stand.slot k h) refl
+enter_first l h (full a) = grind arith
 
 enter_agrees : {G V : Type 0} {k : ℕ} {s : Slots G V} {ls : List (Line G V)} → (n i m : ℕ) (g : G) (v : V) → m ≡ k + n → or_free (slice_get s n) ≡ Free → Agrees G V k s ls → Agrees G V k (place n (Allocated g v) s) (enter (line i m g v) ls)
 enter_agrees zero i m g v e f none = full' (omega arith) none
 enter_agrees (suc n) i m g v e f none = free (enter_agrees n i m g v (omega arith) refl none)
 enter_agrees zero i m g v e f (free a) = rw (enter_first (line i m g v) (omega arith) a) (full' (omega arith) a)
 enter_agrees (suc n) i m g v e f (free a) = free (enter_agrees n i m g v (omega arith) f a)
-enter_agrees zero i m g v e f (full a) = absurd (let z : ◌≡◌ {A = ℕ} 0 1 = cc in omega arith)
+enter_agrees zero i m g v e f (full a) = cc
 enter_agrees {k = k} (suc n) i m g v e f (full a) = rw (le-ltb m k (omega arith)) (full (enter_agrees n i m g v (omega arith) f a))
 
 without_none : {G V : Type 0} {k : ℕ} {s : Slots G V} {ls : List (Line G V)} → (m : ℕ) → m < k → Agrees G V k s ls → without m ls ≡ ls
 without_none m h none = refl
 without_none m h (free a) = without_none m (omega arith) a
-without_none m h (full {k = k} a) = rw (ne_eqb k m (omega arith), without_none m (omega arith) a) refl
+without_none m h (full a) = grind (arith, without_none m (omega arith) a)
 
 without_agrees : {G V : Type 0} {k : ℕ} {s : Slots G V} {ls : List (Line G V)} → (n m : ℕ) → m ≡ k + n → Agrees G V k s ls → Agrees G V k (place n Free s) (without m ls)
 without_agrees zero m e none = free none
@@ -55,7 +48,7 @@ without_agrees {k = k} (suc n) m e (full a) = rw (ne_eqb k m (omega arith)) (ful
 put_none : {G V : Type 0} {k : ℕ} {s : Slots G V} {ls : List (Line G V)} → (m : ℕ) (v : V) → m < k → Agrees G V k s ls → put_in m v ls ≡ ls
 put_none m v h none = refl
 put_none m v h (free a) = put_none m v (omega arith) a
-put_none m v h (full {k = k} a) = rw (ne_eqb k m (omega arith), put_none m v (omega arith) a) refl
+put_none m v h (full a) = grind (arith, put_none m v (omega arith) a)
 
 put_agrees : {G V : Type 0} {k : ℕ} {s : Slots G V} {ls : List (Line G V)} → (n m : ℕ) (v : V) → m ≡ k + n → Agrees G V k s ls → Agrees G V k (place n (with_value v (or_free (slice_get s n))) s) (put_in m v ls)
 put_agrees zero m v e none = free none
@@ -80,16 +73,12 @@ trim_agrees (suc n) a = trim_agrees n (pop_agrees a)
 
 -- a record written, freed or given a value, at a slot's own number
 insert_agrees : {G V : Type 0} {s : Slots G V} {ls : List (Line G V)} → (n i : ℕ) (g : G) (v : V) → leb 1 n && is_free (at n s) ≡ true → Agrees G V 1 s ls → Agrees G V 1 (write n (Allocated g v) s) (enter (line i n g v) ls)
-insert_agrees zero i g v h a = absurd (let z : ◌≡◌ {A = ℕ} 0 1 = cc in omega arith)
-insert_agrees {G} {V} {s} (suc n) i g v h a = enter_agrees n i (suc n) g v (omega arith) (vacant (or_free (slice_get s n)) (ap is_free (sym (at_suc n s)) ∙ (and_parts (leb 1 (suc n)) (is_free (at (suc n) s)) h).1)) a
-  where
-    vacant : (x : DirectSlot G V) → is_free x ≡ true → x ≡ Free
-    vacant Free e = refl
-    vacant (Allocated g v) e = absurd (let z : ◌≡◌ {A = ℕ} 0 1 = cc in omega arith)
+insert_agrees zero i g v h a = cc
+insert_agrees {s = s} (suc n) i g v h a = let f : or_free (slice_get s n) ≡ Free = grind arith in enter_agrees n i (suc n) g v (omega arith) f a
 
 edit_agrees : {G V : Type 0} {s : Slots G V} {ls : List (Line G V)} → (n : ℕ) (v : V) → Agrees G V 1 s ls → Agrees G V 1 (write n (with_value v (at n s)) s) (put_in n v ls)
 edit_agrees zero v a = rw (put_none 0 v (omega arith) a) a
-edit_agrees {s = s} (suc n) v a = rw (at_suc n s) (put_agrees n (suc n) v (omega arith) a)
+edit_agrees {s = s} (suc n) v a = let q : at (suc n) s ≡ or_free (slice_get s n) = grind arith in rw q (put_agrees n (suc n) v (omega arith) a)
 
 remove_agrees : {G V : Type 0} {s : Slots G V} {ls : List (Line G V)} → (n : ℕ) → Agrees G V 1 s ls → Agrees G V 1 (write n Free s) (without n ls)
 remove_agrees zero a = rw (without_none 0 (omega arith) a) a

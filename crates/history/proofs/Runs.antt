@@ -2,42 +2,42 @@
 use Rattle.std.proofs.Common.{◌≡◌, ℕ, zero, suc, ◌+◌, ◌<◌, ◌≤◌, Bool, ◌⊎◌, List, [], ◌∷◌, ◌++◌, length, sym, refl, ap, ◌∙◌, inl, inr, arith}
 use Rattle.std.specs.List.{slice_get}
 use Rattle.kinds.specs.declared.slot.DirectSlot.TheVariants.{Allocated}
-use Rattle.history.specs.Slots.{Slots, Ptr, ptr, or_free, at, count}
-use Rattle.history.specs.Calls.{insert, Entry, Leads, made, next}
+use Rattle.history.specs.Slots.{Slots, or_free, at, count}
+use Rattle.history.specs.Calls.{Entry, Leads, made, next}
 use Rattle.history.specs.Roll.{Line, Roll, rolled, roll}
 use Rattle.history.specs.Laws.{In, Stands, Arrived, Keeps, Carries, Lawful}
-use Rattle.history.proofs.Agree.{Agrees, none, free, full, line, at_suc, step_agrees}
-use Rattle.history.proofs.Stems.{New, Stem, stems, grows, new_grows, passes_same}
+use Rattle.history.proofs.Agree.{Agrees, none, free, full, line, step_agrees}
+use Rattle.history.proofs.Stems.{New, Stem, stems, grows}
 
 module _ {G V : Type 0} where
   slot_low : {k : ℕ} {s : Slots G V} {ls : List (Line G V)} → Agrees G V k s ls → (l : Line G V) → In l ls → k ≤ l.stand.slot
   slot_low none l i = absurd i
   slot_low (free a) l i = omega (arith, slot_low a l i)
-  slot_low (full a) l (inl e) = omega (arith, ap (λ (x : Line G V). x.stand.slot) e)
+  slot_low (full a) l (inl e) = grind arith
   slot_low (full a) l (inr i) = omega (arith, slot_low a l i)
 
   slot_one : {k : ℕ} {s : Slots G V} {ls : List (Line G V)} → Agrees G V k s ls → (l m : Line G V) → In l ls → In m ls → l.stand.slot ≡ m.stand.slot → l ≡ m
   slot_one none l m i j e = absurd i
   slot_one (free a) l m i j e = slot_one a l m i j e
-  slot_one (full a) l m (inl c) (inl d) e = c ∙ sym d
-  slot_one (full a) l m (inl c) (inr j) e = absurd (omega (arith, slot_low a m j, ap (λ (x : Line G V). x.stand.slot) c))
-  slot_one (full a) l m (inr i) (inl d) e = absurd (omega (arith, slot_low a l i, ap (λ (x : Line G V). x.stand.slot) d))
+  slot_one (full a) l m (inl c) (inl d) e = cc
+  slot_one (full a) l m (inl c) (inr j) e = grind (arith, slot_low a m j)
+  slot_one (full a) l m (inr i) (inl d) e = grind (arith, slot_low a l i)
   slot_one (full a) l m (inr i) (inr j) e = slot_one a l m i j e
 
   each_at : {k : ℕ} {s : Slots G V} {ls : List (Line G V)} → Agrees G V k s ls → (n : ℕ) (l : Line G V) → In l ls → l.stand.slot ≡ k + n → or_free (slice_get s n) ≡ Allocated l.stand.gen l.stand.value
   each_at none n l i e = absurd i
   each_at (free a) zero l i e = absurd (omega (arith, slot_low a l i))
   each_at (free a) (suc n) l i e = each_at a n l i (omega arith)
-  each_at (full a) zero l (inl d) e = rw d refl
+  each_at (full a) zero l (inl d) e = grind arith
   each_at (full a) zero l (inr i) e = absurd (omega (arith, slot_low a l i))
-  each_at (full a) (suc n) l (inl d) e = absurd (omega (arith, ap (λ (x : Line G V). x.stand.slot) d))
+  each_at (full a) (suc n) l (inl d) e = grind arith
   each_at (full a) (suc n) l (inr i) e = each_at a n l i (omega arith)
 
   only_at : {k : ℕ} {s : Slots G V} {ls : List (Line G V)} → Agrees G V k s ls → (n m : ℕ) (g : G) (v : V) → m ≡ k + n → or_free (slice_get s n) ≡ Allocated g v → (l : Line G V) × In l ls × (l.stand ≡ record { slot = m; gen = g; value = v })
-  only_at none n m g v e d = absurd (let z : ◌≡◌ {A = ℕ} 0 1 = cc in omega arith)
-  only_at (free a) zero m g v e d = absurd (let z : ◌≡◌ {A = ℕ} 0 1 = cc in omega arith)
+  only_at none n m g v e d = cc
+  only_at (free a) zero m g v e d = cc
   only_at (free a) (suc n) m g v e d = only_at a n m g v (omega arith) d
-  only_at (full {k = k} {i = i} {g = h} {v = u} a) zero m g v e d = let c : k ≡ m = omega arith in let p : h ≡ g = cc in let q : u ≡ v = cc in (line i k h u, inl refl, rw (c, p, q) refl)
+  only_at (full {k = k} {i = i} {g = h} {v = u} a) zero m g v e d = (line i k h u, inl refl, grind arith)
   only_at (full a) (suc n) m g v e d = let b = only_at a n m g v (omega arith) d in (b.0, inr b.1, b.2)
 
   counted_at : {k : ℕ} {s : Slots G V} {ls : List (Line G V)} → Agrees G V k s ls → count s ≡ length ls
@@ -51,38 +51,27 @@ module _ {G V : Type 0} where
     below : (m : Line G V) → In m r.lines → m.number < r.next
     one : (m n : Line G V) → In m r.lines → In n r.lines → m.number ≡ n.number → m ≡ n
 
-  number_of : (l m : Line G V) → l ≡ m → l.number ≡ m.number
-  number_of l m e = ap (λ (x : Line G V). x.number) e
-
   -- the slot and generation of a line are those of the line that it was
   stem_same : (e : Entry G V) (ls : List (Line G V)) (m : Line G V) (x : Stem e ls m) → (m.stand.slot ≡ x.line.stand.slot) × (m.stand.gen ≡ x.line.stand.gen)
-  stem_same e ls m x = passes_same e.call e.accepted x.line.stand m.stand x.passes
-
-  new_slot : (e : Entry G V) (r : Roll G V) (m n : Line G V) (x : New e r m) (y : New e r n) → m.stand.slot ≡ n.stand.slot
-  new_slot e r m n x y =
-      let c : insert (ptr x.first) x.first.value ≡ insert (ptr y.first) y.first.value = ap (λ (z : Entry G V). z.call) (sym x.call ∙ y.call) in
-      let p : ptr x.first ≡ ptr y.first = cc in
-      ap (λ (z : Line G V). z.stand.slot) x.is ∙ ap (λ (z : Ptr G). z.slot) p ∙ sym (ap (λ (z : Line G V). z.stand.slot) y.is)
+  stem_same e ls m x = grind (arith, x.passes)
 
   new_old : (e : Entry G V) (r : Roll G V) (s : Slots G V) → Sound r s → (m n : Line G V) → New e r m → Stem e r.lines n → m.number ≡ n.number → ⊥
-  new_old e r s d m n x y k = omega (arith, d.below y.line y.was, y.number, k, number_of m _ x.is)
+  new_old e r s d m n x y k = grind (arith, d.below y.line y.was)
 
   step_one : (e : Entry G V) (r : Roll G V) (s t : Slots G V) → Sound r s → Agrees G V 1 t (rolled e r).lines → (m n : Line G V) → In m (rolled e r).lines → In n (rolled e r).lines → m.number ≡ n.number → m ≡ n
   step_one e r s t d a m n i j k = go (stems e r m i) (stems e r n j)
     where
       go : New e r m ⊎ Stem e r.lines m → New e r n ⊎ Stem e r.lines n → m ≡ n
-      go (inl x) (inl y) = slot_one a m n i j (new_slot e r m n x y)
+      go (inl x) (inl y) = slot_one a m n i j (grind (arith, x.call, y.call, x.is, y.is))
       go (inl x) (inr y) = absurd (new_old e r s d m n x y k)
       go (inr x) (inl y) = absurd (new_old e r s d n m y x (sym k))
-      go (inr x) (inr y) =
-          let l = d.one x.line y.line x.was y.was (x.number ∙ k ∙ sym y.number) in
-          slot_one a m n i j ((stem_same e r.lines m x).0 ∙ ap (λ (z : Line G V). z.stand.slot) l ∙ sym (stem_same e r.lines n y).0)
+      go (inr x) (inr y) = slot_one a m n i j (grind (arith, d.one x.line y.line x.was y.was, stem_same e r.lines m x, stem_same e r.lines n y))
 
   step_below : (e : Entry G V) (r : Roll G V) (s : Slots G V) → Sound r s → (m : Line G V) → In m (rolled e r).lines → m.number < (rolled e r).next
   step_below e r s d m i = go (stems e r m i)
     where
       go : New e r m ⊎ Stem e r.lines m → m.number < (rolled e r).next
-      go (inl x) = omega (arith, new_grows e r m x, number_of m _ x.is)
+      go (inl x) = grind arith
       go (inr x) = omega (arith, grows e r, d.below x.line x.was, x.number)
 
 module _ {G V : Type 0} (alike : G → G → Bool) where
@@ -107,11 +96,11 @@ module _ {G V : Type 0} (alike : G → G → Bool) where
 
       at_line : (x : Line G V) → In x (roll h).lines → (n : ℕ) → x.stand.slot ≡ n → at n s ≡ Allocated x.stand.gen x.stand.value
       at_line x i zero e = absurd (omega (arith, slot_low d.agrees x i))
-      at_line x i (suc n) e = at_suc n s ∙ each_at d.agrees n x i (omega arith)
+      at_line x i (suc n) e = grind (arith, each_at d.agrees n x i)
 
       at_slot : (n : ℕ) (g : G) (v : V) → at n s ≡ Allocated g v → (x : Line G V) × In x (roll h).lines × (x.stand ≡ record { slot = n; gen = g; value = v })
-      at_slot zero g v e = absurd (let z : ◌≡◌ {A = ℕ} 0 1 = cc in omega arith)
-      at_slot (suc n) g v e = only_at d.agrees n (suc n) g v (omega arith) (sym (at_suc n s) ∙ e)
+      at_slot zero g v e = cc
+      at_slot (suc n) g v e = only_at d.agrees n (suc n) g v (omega arith) (grind arith)
 
   arrived : (h : List (Entry G V)) (s : Slots G V) → Leads alike h s → (m : Line G V) → In m (roll h).lines → Arrived h m
   arrived [] s made m i = absurd i
@@ -122,9 +111,9 @@ module _ {G V : Type 0} (alike : G → G → Bool) where
         first = y.first;
         before = h;
         since = [];
-        whole = ap (λ (z : Entry G V). z ∷ h) y.call;
-        number = number_of m _ y.is;
-        carried = ap (λ (z : Line G V). z.stand) y.is;
+        whole = cc;
+        number = cc;
+        carried = cc;
       }
       go rest (inr y) =
           let a = rest y.line y.was in
@@ -132,8 +121,8 @@ module _ {G V : Type 0} (alike : G → G → Bool) where
             first = a.first;
             before = a.before;
             since = e ∷ a.since;
-            whole = ap (λ (z : List (Entry G V)). e ∷ z) a.whole;
-            number = sym y.number ∙ a.number;
+            whole = cc;
+            number = cc;
             carried = (y.line.stand, a.carried, y.passes);
           }
 
@@ -144,11 +133,11 @@ module _ {G V : Type 0} (alike : G → G → Bool) where
   kept : (later h : List (Entry G V)) (s : Slots G V) → Leads alike h s → (t : Slots G V) → Leads alike (later ++ h) t → Carries later h
   kept [] h s k t a l m i j e =
       let q = (sound h s k).one l m i j e in
-      record { carried = ap (λ (z : Line G V). z.stand) (sym q); slot = ap (λ (z : Line G V). z.stand.slot) (sym q); gen = ap (λ (z : Line G V). z.stand.gen) (sym q) }
+      record { carried = cc; slot = cc; gen = cc }
   kept (e ∷ later) h s k t (next {s = u} a x) l m i j q = go (kept later h s k u a) (stems e (roll (later ++ h)) m j)
     where
       go : Carries later h → New e (roll (later ++ h)) m ⊎ Stem e (roll (later ++ h)).lines m → Keeps (e ∷ later) l m
-      go rest (inl y) = absurd (omega (arith, (sound h s k).below l i, grown later h, number_of m _ y.is, q))
+      go rest (inl y) = absurd (grind (arith, (sound h s k).below l i, grown later h))
       go rest (inr y) =
           let b = rest l y.line i y.was (q ∙ sym y.number) in
           let w = stem_same e (roll (later ++ h)).lines m y in

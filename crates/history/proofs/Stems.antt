@@ -1,9 +1,9 @@
 -- Each line after a call is a new one, or comes from a line before it.
-use Rattle.std.proofs.Common.{◌≡◌, ℕ, suc, ◌≤◌, Bool, true, false, cond, eqb, ltb, ◌⊎◌, List, [], ◌∷◌, sym, refl, ap, inl, inr, arith}
+use Rattle.std.proofs.Common.{◌≡◌, ℕ, ◌≤◌, Bool, true, false, cond, eqb, ◌⊎◌, List, [], ◌∷◌, refl, inl, inr, arith}
 use Rattle.history.specs.Slots.{Held, ptr}
 use Rattle.history.specs.Calls.{slot_of, Call, insert, edit, remove, clear, trim, reallocate, limit, Entry}
 use Rattle.history.specs.Roll.{Line, Roll, enter, valued, put_in, without, rolled}
-use Rattle.history.specs.Laws.{In, Becomes, Passes}
+use Rattle.history.specs.Laws.{In, Passes}
 
 module _ {G V : Type 0} where
   -- the line that an accepted insertion adds
@@ -20,14 +20,8 @@ module _ {G V : Type 0} where
     pub passes : Passes e line.stand m.stand
 
   in_enter : (l m : Line G V) (ls : List (Line G V)) → In m (enter l ls) → (m ≡ l) ⊎ In m ls
-  in_enter l m [] (inl e) = inl e
-  in_enter l m [] (inr i) = absurd i
-  in_enter l m (k ∷ ks) i = go (in_enter l m ks) (ltb l.stand.slot k.stand.slot) i
-    where
-      go : (In m (enter l ks) → (m ≡ l) ⊎ In m ks) → (b : Bool) → In m (cond b (l ∷ k ∷ ks) (k ∷ enter l ks)) → (m ≡ l) ⊎ In m (k ∷ ks)
-      go rest true j = j
-      go rest false (inl e) = inr (inl e)
-      go rest false (inr j) = elim (rest j) [ inl e ↦ inl e | inr j' ↦ inr (inr j') ]
+  in_enter l m [] i = grind arith
+  in_enter l m (k ∷ ks) i = grind (arith, in_enter l m ks)
 
   in_put : (n : ℕ) (v : V) (m : Line G V) (ls : List (Line G V)) → In m (put_in n v ls) → (l : Line G V) × In l ls × (m ≡ cond (eqb l.stand.slot n) (valued v l) l)
   in_put n v m [] i = absurd i
@@ -36,20 +30,11 @@ module _ {G V : Type 0} where
 
   in_without : (n : ℕ) (m : Line G V) (ls : List (Line G V)) → In m (without n ls) → In m ls
   in_without n m [] i = absurd i
-  in_without n m (l ∷ ls) i = go (in_without n m ls) (eqb l.stand.slot n) i
-    where
-      go : (In m (without n ls) → In m ls) → (b : Bool) → In m (cond b (without n ls) (l ∷ without n ls)) → In m (l ∷ ls)
-      go rest true j = inr (rest j)
-      go rest false (inl e) = inl e
-      go rest false (inr j) = inr (rest j)
+  in_without n m (l ∷ ls) i = grind (arith, in_without n m ls)
 
   valued_stem : (name-slot : ℕ) (v : V) (l m : Line G V) → m ≡ cond (eqb l.stand.slot name-slot) (valued v l) l →
       (l.number ≡ m.number) × (m.stand ≡ cond (eqb l.stand.slot name-slot) (record { slot = l.stand.slot; gen = l.stand.gen; value = v }) l.stand)
-  valued_stem n v l m e = go (eqb l.stand.slot n) e
-    where
-      go : (b : Bool) → m ≡ cond b (valued v l) l → (l.number ≡ m.number) × (m.stand ≡ cond b (record { slot = l.stand.slot; gen = l.stand.gen; value = v }) l.stand)
-      go true d = (ap (λ (x : Line G V). x.number) (sym d), ap (λ (x : Line G V). x.stand) d)
-      go false d = (ap (λ (x : Line G V). x.number) (sym d), ap (λ (x : Line G V). x.stand) d)
+  valued_stem n v l m e = grind arith
 
   call_stems : (c : Call G V) (b : Bool) (r : Roll G V) (m : Line G V) → In m (rolled (record { call = c; accepted = b }) r).lines → New (record { call = c; accepted = b }) r m ⊎ Stem (record { call = c; accepted = b }) r.lines m
   call_stems (insert p v) true r m i = elim (in_enter _ m r.lines i) [
@@ -70,36 +55,5 @@ module _ {G V : Type 0} where
   pub stems : (e : Entry G V) (r : Roll G V) (m : Line G V) → In m (rolled e r).lines → New e r m ⊎ Stem e r.lines m
   stems e r m i = call_stems e.call e.accepted r m i
 
-  call_grows : (c : Call G V) (b : Bool) (r : Roll G V) → r.next ≤ (rolled (record { call = c; accepted = b }) r).next
-  call_grows (insert p v) true r = omega arith
-  call_grows (edit name v) true r = omega arith
-  call_grows (remove name) true r = omega arith
-  call_grows clear true r = omega arith
-  call_grows (trim k) true r = omega arith
-  call_grows (reallocate n) true r = omega arith
-  call_grows (limit l) true r = omega arith
-  call_grows c false r = omega arith
-
   pub grows : (e : Entry G V) (r : Roll G V) → r.next ≤ (rolled e r).next
-  grows e r = call_grows e.call e.accepted r
-
-  pub new_grows : (e : Entry G V) (r : Roll G V) (m : Line G V) → New e r m → (rolled e r).next ≡ suc r.next
-  new_grows e r m x = rw x.call refl
-
-  -- a call leaves a record's slot and generation
-  call_same : (c : Call G V) (old new : Held G V) → Becomes c old new → (new.slot ≡ old.slot) × (new.gen ≡ old.gen)
-  call_same (insert p v) old new e = (ap (λ (x : Held G V). x.slot) e, ap (λ (x : Held G V). x.gen) e)
-  call_same (edit name v) old new e = go (eqb old.slot (slot_of name)) e
-    where
-      go : (b : Bool) → new ≡ cond b (record { slot = old.slot; gen = old.gen; value = v }) old → (new.slot ≡ old.slot) × (new.gen ≡ old.gen)
-      go true d = (ap (λ (x : Held G V). x.slot) d, ap (λ (x : Held G V). x.gen) d)
-      go false d = (ap (λ (x : Held G V). x.slot) d, ap (λ (x : Held G V). x.gen) d)
-  call_same (remove name) old new e = (ap (λ (x : Held G V). x.slot) e, ap (λ (x : Held G V). x.gen) e)
-  call_same clear old new e = (ap (λ (x : Held G V). x.slot) e, ap (λ (x : Held G V). x.gen) e)
-  call_same (trim k) old new e = (ap (λ (x : Held G V). x.slot) e, ap (λ (x : Held G V). x.gen) e)
-  call_same (reallocate n) old new e = (ap (λ (x : Held G V). x.slot) e, ap (λ (x : Held G V). x.gen) e)
-  call_same (limit l) old new e = (ap (λ (x : Held G V). x.slot) e, ap (λ (x : Held G V). x.gen) e)
-
-  pub passes_same : (c : Call G V) (b : Bool) (old new : Held G V) → Passes (record { call = c; accepted = b }) old new → (new.slot ≡ old.slot) × (new.gen ≡ old.gen)
-  passes_same c true old new e = call_same c old new e
-  passes_same c false old new e = (ap (λ (x : Held G V). x.slot) e, ap (λ (x : Held G V). x.gen) e)
+  grows e r = grind arith

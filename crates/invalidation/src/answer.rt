@@ -1,8 +1,10 @@
 ghost use Rattle.std.specs.Prelude.{◌≡◌, false};
 ghost use Rattle.invalidation.specs.Invalidation.{succeeded, overflowed_in, value, strictly, flagged, went_well, went_over, went_nowhere, value_in, strictly_in, flagged_in, settled};
 
+// Both enums, and their methods one by one, are the Rust crate's: its names are kept, a rule of this project.
+
 /// The answer of a call that always succeeds, and may have used up a generation counter.
-#[derive(Clone, Copy)]
+#[derive(Clone, Copy, Debug, PartialEq, Eq)]
 #[must_use]
 pub enum InvalidationOption<T> {
     Success(T),
@@ -53,7 +55,7 @@ impl<T> InvalidationOption<T> {
 }
 
 /// The answer of a call that a pointer may be unfit for.
-#[derive(Clone, Copy)]
+#[derive(Clone, Copy, Debug, PartialEq, Eq)]
 #[must_use]
 pub enum InvalidationResult<T> {
     Success(T),

@@ -35,10 +35,8 @@ impl PtrInx for ShortInx {
     }
 
     fn try_from_usize(n: usize) -> Option<ShortInx> {
-        match u16::try_from(n) {
-            Ok(raw) if raw != 0 => Some(ShortInx { raw }),
-            _ => None,
-        }
+        let raw = u16::try_from(n).ok()?;
+        (raw != 0).then_some(ShortInx { raw })
     }
 }
 
@@ -52,10 +50,10 @@ pub struct SheetInx {
 
 impl SheetInx {
     /// The sheets of a book.
-    pub const SHEETS: u16 = 40;
+    const SHEETS: u16 = 40;
 
     /// The lines of a sheet.
-    pub const LINES: u16 = 200;
+    const LINES: u16 = 200;
 }
 
 impl PtrInx for SheetInx {

@@ -13,12 +13,11 @@ pub struct LimitedStack<S: NonZeroInxGenericStack> {
 
 impl<S: NonZeroInxGenericStack> LimitedStack<S> {
     /// The stack below, emptied; the limit is at first its capacity.
-    pub fn new(below: S) -> Self
+    pub fn new(mut below: S) -> Self
         ensures slots { S.list result.below ≡ [] }
         ensures kept { S.config result.below ≡ S.config below }
         ensures limit { result.limit ≡ S.room (S.config below) }
     {
-        let mut below = below;
         below.clear();
         let limit = below.capacity();
         LimitedStack { below, limit }
@@ -28,7 +27,8 @@ impl<S: NonZeroInxGenericStack> LimitedStack<S> {
     pub fn into_inner(self) -> S
         ensures { result ≡ self.below }
     {
-        self.below
+        let LimitedStack { below, .. } = self;
+        below
     }
 }
 

@@ -5,7 +5,7 @@ ghost use Rattle.lines.specs.Call.{asked};
 use crate::verb::Verb;
 
 /// A call with the fields that it wants, and no others.
-#[derive(Clone, Copy, Debug, Drop, PartialEq, Eq)]
+#[derive(Clone, Copy, Debug, PartialEq, Eq)]
 pub enum Call {
     Insert {
         slot: u16,

@@ -7,8 +7,8 @@ ghost use Rattle.lines.specs.declared.error.LineError.TheVariants.{Unfit};
 use answers::refusal::Refusal;
 use text::number::FieldError;
 
-/// Why a line asks for no call, and the refusal of such a line.
-#[derive(Clone, Copy, Debug, Drop, PartialEq, Eq)]
+/// Why a line asks for no call.
+#[derive(Clone, Copy, Debug, PartialEq, Eq)]
 pub enum LineError {
     /// It is no line of a known call.
     Unknown,

@@ -1,5 +1,5 @@
 //! The lines that a runner reads: what one line asks for, and the one text of each call.
-//! It uses `text` for fields and numbers and `answers` for the refusals of a line, and knows nothing of arenas or stacks.
+//! It uses `text` for fields and numbers, `answers` for a line's refusals, and knows nothing of arenas or stacks.
 //! A new call of the runner is a case of `Verb` and of `Call`, with its text in `specs/Texts.antt`.
 
 #![tactic(auto)]

@@ -7,7 +7,7 @@ ghost use Rattle.lines.specs.declared.error.LineError.TheVariants.{Unknown};
 use crate::error::LineError;
 
 /// A call's name, before its fields are looked at.
-#[derive(Clone, Copy, Debug, Drop, PartialEq, Eq)]
+#[derive(Clone, Copy, Debug, PartialEq, Eq)]
 pub enum Verb {
     Insert,
     Edit,
@@ -19,6 +19,7 @@ pub enum Verb {
     Clear,
 }
 
+/// `Unknown` for a name that no call has.
 impl TryFrom<&[u8]> for Verb {
     type Error = LineError;
 

@@ -1,4 +1,4 @@
-ghost use Rattle.std.specs.Prelude.{◌≡◌, length};
+ghost use Rattle.std.specs.Prelude.{◌≡◌, ◌≤◌, length};
 ghost use Rattle.passages.specs.State.{state_of, opened, tally_of};
 
 use answers::answer::Tally;
@@ -36,7 +36,8 @@ pub fn pointer(slot: u16, season: u32) -> Pointer
 
 /// What the register holds.
 pub fn tally(register: &Register<'_>) -> Tally
-    ensures { result ≡ tally_of (state_of register.now) }
+    ensures held { result ≡ tally_of (state_of register.now) }
+    ensures indexed { result.slots ≤ 65535 }
 {
     Tally {
         count: register.len(),

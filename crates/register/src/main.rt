@@ -1,5 +1,5 @@
 //! The program that clerks pipe scripts through: it reads the standard input and writes the answers.
-//! It uses `runner`, which does all the work, and adds the 256 slots, the reading and the writing.
+//! It uses `runner`, which does all the work, `passages` and `kinds` for the 256 slots, and adds reading and writing.
 //! What is read and written is tested on the sample beside it; everything between is proved below.
 
 #![tactic(auto)]

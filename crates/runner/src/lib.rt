@@ -1,5 +1,5 @@
 //! The runner's logic: from the bytes of a script of calls to the bytes of its answers.
-//! It uses `lines` and `answers` for the text, and `steps` for what each line does to the register.
+//! It uses `text`, `lines` and `answers` for bytes and lines, `passages` for the register, and `steps` for each line.
 //! Reading and writing are a program's: nothing here reaches outside.
 
 #![tactic(auto)]

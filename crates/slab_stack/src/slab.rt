@@ -10,6 +10,7 @@ use stack::lent::{pop_slot, push_slot, read_slot, replace_slot, room_of};
 /// do not count.
 #[derive(Drop)]
 pub struct SlabStack<'a, U> {
+    // a slice and a length, as in the fixed stack
     slots: &'a mut [U],
     len: usize,
     room: usize,
@@ -61,6 +62,8 @@ impl<'a, U: Copy> SlabStack<'a, U> {
     }
 }
 
+// Six of these, and `into_slots`, are those of the fixed stack, a line each that hands on; a trait for how a capacity
+// grows, so as to write them once, would be longer than they are.
 impl<'a, U: Copy> NonZeroInxGenericStack for SlabStack<'a, U> {
     type Slot = U;
 

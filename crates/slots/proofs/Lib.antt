@@ -1,4 +1,3 @@
 pub mod Places
-pub mod Filled
 pub mod Trims
 pub mod Searches

@@ -7,6 +7,9 @@ use crate::find::{Found, record_at};
 use kinds::DirectSlot;
 use stack::NonZeroInxGenericStack;
 
+// The two searches are one chain each, which differ in `rev`; one function for both would take the range from its
+// caller, and could not say which record it finds.
+
 /// The record in the lowest slot; none where no record stands.
 pub fn first_record<G: Copy, V: Copy, S: NonZeroInxGenericStack<Slot = DirectSlot<G, V>>>(
     m: &S,
@@ -15,12 +18,7 @@ pub fn first_record<G: Copy, V: Copy, S: NonZeroInxGenericStack<Slot = DirectSlo
     ensures absent { is_some result ≡ not (count (S.list m.now) == 0) }
     ensures within { Within result (length (S.list m.now)) }
 {
-    for n in 1..m.len() + 1 {
-        if let Some(found) = record_at(m, n) {
-            return Some(found);
-        }
-    }
-    None
+    (1..=m.len()).find_map(|n| record_at(m, n))
 }
 
 /// The record in the highest slot; none where no record stands.
@@ -31,12 +29,7 @@ pub fn last_record<G: Copy, V: Copy, S: NonZeroInxGenericStack<Slot = DirectSlot
     ensures absent { is_some result ≡ not (count (S.list m.now) == 0) }
     ensures within { Within result (length (S.list m.now)) }
 {
-    for n in (1..m.len() + 1).rev() {
-        if let Some(found) = record_at(m, n) {
-            return Some(found);
-        }
-    }
-    None
+    (1..=m.len()).rev().find_map(|n| record_at(m, n))
 }
 
 // Whether there is a last slot and it is free.
@@ -47,6 +40,7 @@ fn ends_free<G: Copy, V: Copy, S: NonZeroInxGenericStack<Slot = DirectSlot<G, V>
 }
 
 /// Pops free slots from the end, at most `num`, and answers how many went.
+#[tactic(auto, using(crate::proofs::Trims::pop_one, crate::proofs::Trims::trimmed_next, crate::proofs::Trims::trimmed_stays))]
 pub fn pop_free<G: Copy, V: Copy, S: NonZeroInxGenericStack<Slot = DirectSlot<G, V>>>(
     m: &mut S,
     num: usize,

@@ -39,6 +39,7 @@ pub fn find_record<G: PtrGen, V: Copy, S: NonZeroInxGenericStack<Slot = DirectSl
 ) -> Option<Found<G, V>>
     ensures { held_in result ≡ found G.eq (to slot cited) (S.list m.now) }
 {
+    // one match with a guard, where a filter of `record_at` would do: a rule of this project for this question
     match m.get(slot) {
         Some(DirectSlot::Allocated(generation, value)) if generation == cited => Some(Found {
             slot,

@@ -1,5 +1,5 @@
-//! What is done to the slots of any stack: looking for records, writing and freeing slots, adding and popping free ones.
-//! It uses `kinds`, the traits of `stack`, and `history` for what slots are; it knows no arena and keeps no count.
+//! What is done to the slots of any stack: looking for records, writing and freeing slots, adding and popping free.
+//! It uses `kinds`, `outcome`, the traits of `stack`, and `history` for what slots are; it knows no arena and no count.
 //! A call of an arena that needs a loop has it here, as a function with its equation on the list of slots.
 
 #![tactic(auto)]

@@ -24,7 +24,9 @@ fn fill_to<G: Copy, V: Copy, S: NonZeroInxGenericStack<Slot = DirectSlot<G, V>>>
     }
 }
 
-// A record comes into a slot that is vacant and within the capacity; free slots are added up to it.
+// A record comes into a slot that is vacant and within the capacity; free slots are added up to it. It comes as a
+// generation and a value, here and below: a rule of this project for what is put into slots.
+#[tactic(auto, using(crate::proofs::Places::write_vacant))]
 fn place<G: Copy, V: Copy, S: NonZeroInxGenericStack<Slot = DirectSlot<G, V>>>(
     m: &mut S,
     n: usize,
@@ -66,6 +68,7 @@ pub fn insert_record<G: Copy, V: Copy, S: NonZeroInxGenericStack<Slot = DirectSl
 }
 
 /// A slot that holds a record gives way to another: the record with a new value, or a free slot.
+#[tactic(auto, using(crate::proofs::Places::write_held))]
 pub fn overwrite<G: Copy, V: Copy, S: NonZeroInxGenericStack<Slot = DirectSlot<G, V>>>(
     m: &mut S,
     n: usize,

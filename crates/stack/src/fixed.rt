@@ -8,6 +8,7 @@ use outcome::{NotWithinCapacityError, ReallocationError};
 /// A stack over slots that the caller lends. Those beyond 2^32 - 1 do not count.
 #[derive(Drop)]
 pub struct FixedStack<'a, U> {
+    // a slice and a length, and no `Vec`: slots are lent, and nothing is on the heap, a rule of this project
     slots: &'a mut [U],
     len: usize,
     // the list is in the lent slots that count

@@ -6,6 +6,9 @@ ghost use Rattle.stack.specs.Slots.{pushed_to, popped_from, counted};
 use outcome::NotWithinCapacityError;
 use std::mem::replace;
 
+// Functions over a slice and its length, to which stacks over lent slots hand theirs: a rule of this project, where
+// methods of a struct of the two would do as well.
+
 // an index has at most 32 bits, and none is 0
 const MOST: usize = 4_294_967_295;
 

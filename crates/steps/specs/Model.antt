@@ -12,10 +12,10 @@ use Rattle.history.specs.Slots.{Slots, trimmed}
 use Rattle.kinds.specs.Kinds.{season_alike}
 use Rattle.outcome.specs.Outcome.{Outcome, done, overflowed, refused}
 use Rattle.kinds.specs.declared.generation.SeasonGen.{SeasonGen}
+use Rattle.lines.specs.Meaning.{line_number}
 use Rattle.lines.specs.declared.call.Call.{Call}
 use Rattle.lines.specs.declared.call.Call.TheVariants.{Insert, Edit, Get, Remove, Trim, Reserve, Limit, Clear}
 use Rattle.lines.specs.declared.error.LineError.{LineError}
-use Rattle.lines.specs.declared.error.LineError.TheVariants.{Unknown, Unfit}
 use Rattle.stack.specs.Limits.{limit_answer}
 use Rattle.slab_stack.specs.Slab.{slab_answer, slab_room}
 use Rattle.stack.specs.Slots.{counted}
@@ -104,8 +104,7 @@ state_after st c = record { slots = slots_by (recorded c) (outcome st c) st.slot
 -- the answer to a line: a call's, or 12 or 13
 abbrev pub answer_to : State → Result Call LineError → Reply
 answer_to st (Ok c) = record { verdict = outcome st c; tally = tally_of (state_after st c) }
-answer_to st (Err Unknown) = record { verdict = refused 12; tally = tally_of st }
-answer_to st (Err Unfit) = record { verdict = refused 13; tally = tally_of st }
+answer_to st (Err e) = record { verdict = refused (line_number e); tally = tally_of st }
 
 abbrev pub after_line : State → Result Call LineError → State
 after_line st (Ok c) = state_after st c

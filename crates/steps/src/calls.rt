@@ -1,4 +1,5 @@
 // What each call of a script does to the register, and whether it was carried out.
+// Slot, generation and value are fields of a call and of an answer: a struct between would only be taken apart again.
 ghost use Rattle.std.specs.Prelude.{◌≡◌};
 ghost use Rattle.answers.specs.Refusals.{of_verdict};
 ghost use Rattle.lines.specs.declared.call.Call.TheVariants.{Insert, Edit, Get, Remove, Trim, Reserve, Limit, Clear};
@@ -81,6 +82,7 @@ pub(crate) fn trim(register: &mut Register<'_>, count: u32) -> Result<Concerned,
     ensures answer { of_verdict result ≡ outcome (state_of register.old) (Trim count) }
     ensures after { state_of register.new ≡ state_after (state_of register.old) (Trim count) }
 {
+    // `as`, here and below: std has no `From` from 32 bits to `usize`, and not more than `count` were popped
     let popped = register.pop_free_end_slots(count as usize);
     Ok(Concerned::Value(popped as u32))
 }

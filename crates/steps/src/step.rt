@@ -19,6 +19,7 @@ fn carry_out(
     ensures answer { of_verdict result ≡ (answer_to (state_of register.old) line).verdict }
     ensures after { state_of register.new ≡ after_line (state_of register.old) line }
 {
+    // a match and no table of closures: each call has other fields
     match line? {
         Call::Insert {
             slot,

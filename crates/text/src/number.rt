@@ -1,23 +1,27 @@
 // Decimals, and the fields that hold them.
-ghost use Rattle.std.specs.Prelude.{◌≡◌, ℕ, ◌≤◌, Some, decimal};
+ghost use Rattle.std.specs.Prelude.{◌≡◌, ℕ, ◌≤◌, [], ◌∷◌, Some, decimal};
 ghost use Rattle.text.specs.Number.{read_on, numeral, within, field_of, AtMost};
 
 use crate::word::is_word;
+
+// The number n with one more digit behind it, where that is at most `most`.
+fn with_digit(n: u32, digit: u8, most: u32) -> Option<u32>
+    ensures { result ≡ within most (read_on n (digit ∷ [])) }
+{
+    let digit = char::from(digit).to_digit(10)?;
+    n.checked_mul(10)?
+        .checked_add(digit)
+        .filter(|next| *next <= most)
+}
 
 // The bound is tested at each digit, so that no number grows past it.
 fn digits(bytes: &[u8], most: u32) -> Option<u32>
     ensures { result ≡ within most (read_on 0 bytes.now) }
 {
-    let mut n: u32 = 0;
+    let mut n = 0;
+    // `try_fold` says the same; from what it promises, no lemma leads to a recursion on the digits
     for b in bytes {
-        if !b.is_ascii_digit() {
-            return None;
-        }
-        let next = u64::from(n) * 10 + u64::from(*b - b'0');
-        if next > u64::from(most) {
-            return None;
-        }
-        n = next as u32;
+        n = with_digit(n, *b, most)?;
     }
     Some(n)
 }
@@ -36,7 +40,7 @@ pub fn number(bytes: &[u8], most: u32) -> Option<u32>
 }
 
 /// A field that is neither a number in range nor a blank.
-#[derive(Clone, Copy, Debug, Drop, PartialEq, Eq)]
+#[derive(Clone, Copy, Debug, PartialEq, Eq)]
 pub struct FieldError;
 
 /// A field's number, or None for a blank, which some calls want.

@@ -21,7 +21,7 @@ pub fn split_once(bytes: &[u8], at: u8) -> Option<(&[u8], &[u8])>
 }
 
 /// The four parts of a line, as they stand in it.
-#[derive(Clone, Copy, Drop)]
+#[derive(Clone, Copy)]
 pub struct Fields<'a> {
     pub call: &'a [u8],
     pub slot: &'a [u8],
@@ -47,9 +47,9 @@ pub fn four_fields(line: &[u8]) -> Option<Fields<'_>>
     })
 }
 
-/// The first line of a text and the rest, or None where there is no line. Byte 10 ends a line, and the last may lack it.
+/// The first line of a text and the rest; None of the empty text. Byte 10 ends a line, and the last line may lack it.
 pub fn first_line(text: &[u8]) -> Option<(&[u8], &[u8])>
-    ensures first { MatchOption result (lines_of text.now ≡ []) (λ p. lines_of text.now ≡ p.0.now ∷ lines_of p.1.now) }
+    ensures first { MatchOption result (text.now ≡ []) (λ p. lines_of text.now ≡ p.0.now ∷ lines_of p.1.now) }
     ensures shorter { IfSome result (λ p. length p.1.now < length text.now) }
 {
     if text.is_empty() {
@@ -59,7 +59,7 @@ pub fn first_line(text: &[u8]) -> Option<(&[u8], &[u8])>
 }
 
 /// The lines of a text, each without its byte 10.
-#[derive(Clone, Copy, Drop)]
+#[derive(Drop)]
 pub struct Lines<'a> {
     rest: &'a [u8],
 }

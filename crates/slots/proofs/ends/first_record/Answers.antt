@@ -1,18 +1,16 @@
-use Rattle.std.proofs.Common.{is_some, ap, ◌∙◌, arith}
-use Rattle.slots.proofs.Searches.{none_more, first_is, first_none, first_absent}
+use Rattle.std.proofs.Common.{rules, ◌≡◌, ◌-◌, ◌<◌, refl}
+use Rattle.std.proofs.iter.runs.Sources.{ranges}
+use Rattle.slots.proofs.Searches.{Search, first_found, within, absent}
 use Rattle.slots.proofs.ends.first_record.Goals as goal
 
-pub returns-in-Some : goal.returns-in-Some
-returns-in-Some g c =
-    let s = g.S.NonZeroInxGenericStack.list c.args.m.now in
-    let f = first_is s c.loop-n.n _ c.loop-n.auto.n (omega arith) c.loop-n.invariant c.in-Some.ensures in
-    record { first = f.0; absent = ap is_some f.0 ∙ first_absent 1 s; within = (omega (arith, f.1, c.loop-n.auto.n), omega (arith, f.1)) }
-
-pub loop-n-preserved : goal.loop-n-preserved
-loop-n-preserved g c = none_more _ _ c.loop-n.auto.n (omega arith) c.loop-n.invariant c.in_default.ensures
-
+-- slot k is item k - 1 of the run, and `t` names that place for `search`
 pub returns : goal.returns
 returns g c =
+    let p = c.find_map.ensures.runs.0 in
     let s = g.S.NonZeroInxGenericStack.list c.args.m.now in
-    let f = first_none s c.loop-n.n (omega arith) c.loop-n.invariant in
-    record { first = f; absent = ap is_some f ∙ first_absent 1 s; within = tt }
+    let r = c.find_map.result in
+    let x : Search s (λ k n. k < n) r = record {
+      own = search rules;
+      free = λ k l h. let t : p.at (k - 1) ≡ p.at (k - 1) = refl in search (rules, ranges, t);
+    } in
+    record { first = first_found s r x; absent = absent s _ r x; within = within s _ r x }

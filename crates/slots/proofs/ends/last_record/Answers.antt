@@ -1,26 +1,16 @@
-use Rattle.std.proofs.Common.{◌≡◌, ◌+◌, ◌-◌, is_some, ap, ◌∙◌, arith}
-use Rattle.slots.proofs.Searches.{last_start, last_more, last_is, last_none, last_absent}
+use Rattle.std.proofs.Common.{rules, ◌≡◌, ◌-◌, ◌<◌, length, refl}
+use Rattle.std.proofs.iter.runs.Sources.{ranges}
+use Rattle.slots.proofs.Searches.{Search, last_found, within, absent}
 use Rattle.slots.proofs.ends.last_record.Goals as goal
 
-pub loop-n-init : goal.loop-n-init
-loop-n-init g c = rw c.len-n.ensures (last_start (g.S.NonZeroInxGenericStack.list c.args.m.now))
-
-pub returns-in-Some : goal.returns-in-Some
-returns-in-Some g c =
-    let s = g.S.NonZeroInxGenericStack.list c.args.m.now in
-    let n = c.loop-n.n in
-    let q : (n - 1) + 1 ≡ n = omega arith in
-    let f = last_is s (n - 1) _ (omega arith) (omega arith) (rw q c.loop-n.invariant) c.in-Some.ensures in
-    record { last = f.0; absent = ap is_some f.0 ∙ last_absent 1 s; within = (omega (arith, f.1), omega (arith, f.1)) }
-
-pub loop-n-preserved : goal.loop-n-preserved
-loop-n-preserved g c =
-    let n = c.loop-n.n in
-    let q : (n - 1) + 1 ≡ n = omega arith in
-    last_more (g.S.NonZeroInxGenericStack.list c.args.m.now) (n - 1) (omega arith) (omega arith) (rw q c.loop-n.invariant) c.in_default.ensures
-
+-- slot k is item length s - k of the run, and `t` names that place for `search`
 pub returns : goal.returns
 returns g c =
+    let p = c.find_map.ensures.runs.0 in
     let s = g.S.NonZeroInxGenericStack.list c.args.m.now in
-    let f = last_none s c.loop-n.n c.loop-n-test.false c.loop-n.invariant in
-    record { last = f; absent = ap is_some f ∙ last_absent 1 s; within = tt }
+    let r = c.find_map.result in
+    let x : Search s (λ k n. n < k) r = record {
+      own = search rules;
+      free = λ k l h. let t : p.at (length s - k) ≡ p.at (length s - k) = refl in search (rules, ranges, t);
+    } in
+    record { last = last_found s r x; absent = absent s _ r x; within = within s _ r x }

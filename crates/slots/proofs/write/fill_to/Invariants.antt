@@ -1,4 +1,4 @@
-use Rattle.std.proofs.Common.{◌≡◌, length}
+use Rattle.std.proofs.Common.{◌≡◌, ◌≤◌, max, length}
 use Rattle.slots.specs.Records.{filled}
 use Rattle.slots.proofs.write.fill_to.Given as goal
 
@@ -7,6 +7,6 @@ invariant-loop g l =
     let s = g.S.NonZeroInxGenericStack in
     record {
       kept : s.config l.m ≡ s.config l.initial.m;
-      slots : filled (s.list l.m) l.n ≡ filled (s.list l.initial.m) l.n;
-      long : length (s.list l.m) ≡ l.counter;
+      slots : s.list l.m ≡ filled (s.list l.initial.m) l.counter;
+      most : l.counter ≤ max l.n (length (s.list l.initial.m));
     }
