@@ -6,8 +6,8 @@ use stack::{NonZeroInxGenericStack, SetMaxCapacity};
 /// Any stack, under a limit.
 #[derive(Drop)]
 pub struct LimitedStack<S: NonZeroInxGenericStack> {
-    pub(crate) below: S,
-    pub(crate) limit: usize,
+    below: S,
+    limit: usize,
     ghost within: { length (S.list below) ≤ limit },
 }
 

@@ -8,6 +8,7 @@ use outcome::{NotWithinCapacityError, ReallocationError};
 
 /// A list of slots, counted from 1, with a capacity that it never exceeds.
 pub trait NonZeroInxGenericStack {
+    /// What the list is of.
     type Slot: Copy;
 
     // what fixes capacity and maximum: only a reallocation, or a new limit, changes it
@@ -24,6 +25,7 @@ pub trait NonZeroInxGenericStack {
     // what a reallocation of so many slots, to a request, with an outcome, may leave
     ghost regrown: { Config → ℕ → ℕ → Outcome (Unit {0}) → Config → Type 0 };
 
+    // what holds of every stack of the type
     ghost laws: { Laws list config room limit regrown };
 
     /// How many slots the stack has room for.
