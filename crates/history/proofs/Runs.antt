@@ -7,7 +7,7 @@ use Rattle.history.specs.Calls.{Entry, Leads, made, next}
 use Rattle.history.specs.Roll.{Line, Roll, rolled, roll}
 use Rattle.history.specs.Laws.{In, Stands, Arrived, Keeps, Carries, Lawful}
 use Rattle.history.proofs.Agree.{Agrees, none, free, full, line, step_agrees}
-use Rattle.history.proofs.Stems.{New, Stem, stems, grows}
+use Rattle.history.proofs.Stems.{New, Stem, stems, grows, passes_same}
 
 module _ {G V : Type 0} where
   slot_low : {k : ℕ} {s : Slots G V} {ls : List (Line G V)} → Agrees G V k s ls → (l : Line G V) → In l ls → k ≤ l.stand.slot
@@ -53,7 +53,7 @@ module _ {G V : Type 0} where
 
   -- the slot and generation of a line are those of the line that it was
   stem_same : (e : Entry G V) (ls : List (Line G V)) (m : Line G V) (x : Stem e ls m) → (m.stand.slot ≡ x.line.stand.slot) × (m.stand.gen ≡ x.line.stand.gen)
-  stem_same e ls m x = grind (arith, x.passes)
+  stem_same e ls m x = passes_same e.call e.accepted x.line.stand m.stand x.passes
 
   new_old : (e : Entry G V) (r : Roll G V) (s : Slots G V) → Sound r s → (m n : Line G V) → New e r m → Stem e r.lines n → m.number ≡ n.number → ⊥
   new_old e r s d m n x y k = grind (arith, d.below y.line y.was)

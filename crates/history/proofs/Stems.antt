@@ -3,7 +3,7 @@ use Rattle.std.proofs.Common.{◌≡◌, ℕ, ◌≤◌, Bool, true, false, cond
 use Rattle.history.specs.Slots.{Held, ptr}
 use Rattle.history.specs.Calls.{slot_of, Call, insert, edit, remove, clear, trim, reallocate, limit, Entry}
 use Rattle.history.specs.Roll.{Line, Roll, enter, valued, put_in, without, rolled}
-use Rattle.history.specs.Laws.{In, Passes}
+use Rattle.history.specs.Laws.{In, Becomes, Passes}
 
 module _ {G V : Type 0} where
   -- the line that an accepted insertion adds
@@ -55,5 +55,16 @@ module _ {G V : Type 0} where
   pub stems : (e : Entry G V) (r : Roll G V) (m : Line G V) → In m (rolled e r).lines → New e r m ⊎ Stem e r.lines m
   stems e r m i = call_stems e.call e.accepted r m i
 
+  call_grows : (c : Call G V) (b : Bool) (r : Roll G V) → r.next ≤ (rolled (record { call = c; accepted = b }) r).next
+  call_grows c b r = grind arith
+
   pub grows : (e : Entry G V) (r : Roll G V) → r.next ≤ (rolled e r).next
-  grows e r = grind arith
+  grows e r = call_grows e.call e.accepted r
+
+  -- a call leaves a record's slot and generation
+  call_same : (c : Call G V) (old new : Held G V) → Becomes c old new → (new.slot ≡ old.slot) × (new.gen ≡ old.gen)
+  call_same c old new e = grind arith
+
+  pub passes_same : (c : Call G V) (b : Bool) (old new : Held G V) → Passes (record { call = c; accepted = b }) old new → (new.slot ≡ old.slot) × (new.gen ≡ old.gen)
+  passes_same c true old new e = call_same c old new e
+  passes_same c false old new e = grind arith
