@@ -5,6 +5,8 @@
 #![tactic(auto)]
 
 pub mod arena;
+pub mod compress;
+pub mod copy;
 pub mod edit;
 pub mod ends;
 pub mod find;

@@ -1,11 +1,12 @@
 -- The slots are those of the lines, in their order, and stay so under each call.
-use Rattle.std.proofs.Common.{◌≡◌, ℕ, zero, suc, ◌+◌, ◌-◌, ◌<◌, Bool, true, false, ◌&&◌, leb, List, [], ◌∷◌, length, refl, arith}
+use Rattle.std.proofs.Common.{◌≡◌, ℕ, zero, suc, ◌+◌, ◌-◌, ◌<◌, ◌≤◌, Bool, true, false, ◌&&◌, leb, List, [], ◌∷◌, ◌++◌, length, Some, None, refl, ap, append-nil, append_assoc, arith}
 use Rattle.std.specs.List.{slice_get}
 use Rattle.std.proofs.lemmas.Bool.{le-ltb, eq-eqb, ne_eqb}
 use Rattle.kinds.specs.declared.slot.DirectSlot.TheVariants.{Free, Allocated}
-use Rattle.history.specs.Slots.{Slots, or_free, at, is_free, with_value, place, write, pop_free, trimmed}
-use Rattle.history.specs.Calls.{slot_of, Call, insert, edit, remove, clear, trim, reallocate, limit, Entry, after, asks, Step}
-use Rattle.history.specs.Roll.{Line, Roll, enter, put_in, without, rolled}
+use Rattle.history.specs.Slots.{Slots, Held, or_free, at, held, is_free, with_value, place, write, pop_free, trimmed}
+use Rattle.history.specs.Mapped.{rest, packed, put_all, settle, rising, freed}
+use Rattle.history.specs.Calls.{slot_of, slots_of, Call, insert, edit, edit_all, remove, drain, clear, bring, hand_over, compress, trim, reallocate, limit, Entry, after, asks, Step}
+use Rattle.history.specs.Roll.{Line, Roll, standing, enter, put_in, put_each, without, resettled, numbered, rolled}
 
 abbrev pub line : {G V : Type 0} → ℕ → ℕ → G → V → Line G V
 line i k g v = record { number = i; stand = record { slot = k; gen = g; value = v } }
@@ -84,19 +85,72 @@ remove_agrees : {G V : Type 0} {s : Slots G V} {ls : List (Line G V)} → (n : �
 remove_agrees zero a = rw (without_none 0 (omega arith) a) a
 remove_agrees (suc n) a = without_agrees n (suc n) (omega arith) a
 
+-- the records of the slots are those of the lines
+pub records_of : {G V : Type 0} {k : ℕ} {s : Slots G V} {ls : List (Line G V)} → Agrees G V k s ls → held k s ≡ standing ls
+records_of none = refl
+records_of (free a) = records_of a
+records_of (full a) = rw (records_of a) refl
+
+put_all_agrees : {G V : Type 0} (ns : List ℕ) (vs : List V) {s : Slots G V} {ls : List (Line G V)} → Agrees G V 1 s ls → Agrees G V 1 (put_all ns vs s) (put_each ns vs ls)
+put_all_agrees [] vs a = a
+put_all_agrees (n ∷ ns) [] a = a
+put_all_agrees (n ∷ ns) (v ∷ vs) a = put_all_agrees ns vs (edit_agrees n v a)
+
+-- a record brought in behind all others
+behind_agrees : {G V : Type 0} {k : ℕ} {s : Slots G V} {ls : List (Line G V)} → (n i m : ℕ) (g : G) (v : V) → m ≡ k + n → length s ≤ n → Agrees G V k s ls → (Agrees G V k (place n (Allocated g v) s) (ls ++ line i m g v ∷ [])) × (length (place n (Allocated g v) s) ≡ suc n)
+behind_agrees zero i m g v e h none = (full' (omega arith) none, refl)
+behind_agrees (suc n) i m g v e h none = let b = behind_agrees n i m g v (omega arith) (omega arith) none in (free b.0, ap suc b.1)
+behind_agrees zero i m g v e h (free a) = absurd (omega arith)
+behind_agrees zero i m g v e h (full a) = absurd (omega arith)
+behind_agrees (suc n) i m g v e h (free a) = let b = behind_agrees n i m g v (omega arith) (omega arith) a in (free b.0, ap suc b.1)
+behind_agrees (suc n) i m g v e h (full a) = let b = behind_agrees n i m g v (omega arith) (omega arith) a in (full b.0, ap suc b.1)
+
+write_behind : {G V : Type 0} (x : Held G V) (i : ℕ) (s : Slots G V) (ls : List (Line G V)) → length s < x.slot → Agrees G V 1 s ls →
+    (Agrees G V 1 (write x.slot (Allocated x.gen x.value) s) (ls ++ record { number = i; stand = x } ∷ [])) × (length (write x.slot (Allocated x.gen x.value) s) ≡ x.slot)
+write_behind {G} {V} x i s ls h a = go x.slot refl
+  where
+    go : (n : ℕ) → x.slot ≡ n → (Agrees G V 1 (write n (Allocated x.gen x.value) s) (ls ++ record { number = i; stand = x } ∷ [])) × (length (write n (Allocated x.gen x.value) s) ≡ n)
+    go zero e = absurd (omega arith)
+    go (suc n) e = behind_agrees n i x.slot x.gen x.value (omega arith) (omega arith) a
+
+settle_agrees : {G V : Type 0} (hs : List (Held G V)) (i : ℕ) (s : Slots G V) (ls : List (Line G V)) → rising (length s) hs ≡ true → Agrees G V 1 s ls → Agrees G V 1 (settle s hs) (ls ++ numbered i hs)
+settle_agrees [] i s ls h a = rw (append-nil ls) a
+settle_agrees (x ∷ hs) i s ls h a =
+    let b = write_behind x i s ls (grind arith) a in
+    rw (← append_assoc ls (record { number = i; stand = x } ∷ []) (numbered (suc i) hs)) (settle_agrees hs (suc i) _ _ (grind arith) b.0)
+
+freed_agrees : {G V : Type 0} (k : ℕ) (s : Slots G V) → Agrees G V k (freed s) []
+freed_agrees k [] = none
+freed_agrees k (x ∷ s) = free (freed_agrees (suc k) s)
+
+packed_agrees : {G V : Type 0} (k : ℕ) (vs : List V) (ls : List (Line G V)) → Agrees G V k (packed vs (standing ls)) (resettled k vs ls)
+packed_agrees k vs [] = none
+packed_agrees k vs (l ∷ ls) = full (packed_agrees (suc k) (rest vs) ls)
+
 module _ {G V : Type 0} (alike : G → G → Bool) (r : Roll G V) (s : Slots G V) (a : Agrees G V 1 s r.lines) where
   call_agrees : (c : Call G V) (b : Bool) → (b ≡ true → asks alike c s ≡ true) → Agrees G V 1 (after (record { call = c; accepted = b }) s) (rolled (record { call = c; accepted = b }) r).lines
   call_agrees (insert p v) true h = insert_agrees p.slot r.next p.gen v (h refl) a
   call_agrees (edit name v) true h = edit_agrees (slot_of name) v a
+  call_agrees (edit_all names f) true h = rw (records_of a) (put_all_agrees (slots_of names) _ a)
   call_agrees (remove name) true h = remove_agrees (slot_of name) a
+  call_agrees (drain None) true h = a
+  call_agrees (drain (Some p)) true h = remove_agrees p.slot a
   call_agrees clear true h = none
+  call_agrees (bring hs) true h = settle_agrees hs r.next [] [] (h refl) none
+  call_agrees hand_over true h = freed_agrees 1 s
+  call_agrees (compress f) true h = rw (records_of a) (packed_agrees 1 _ r.lines)
   call_agrees (trim k) true h = trim_agrees k a
   call_agrees (reallocate n) true h = trim_agrees (length s - n) a
   call_agrees (limit l) true h = trim_agrees (length s - l) a
   call_agrees (insert p v) false h = a
   call_agrees (edit name v) false h = a
+  call_agrees (edit_all names f) false h = a
   call_agrees (remove name) false h = a
+  call_agrees (drain p) false h = a
   call_agrees clear false h = a
+  call_agrees (bring hs) false h = a
+  call_agrees hand_over false h = a
+  call_agrees (compress f) false h = a
   call_agrees (trim k) false h = a
   call_agrees (reallocate n) false h = trim_agrees (length s - n) a
   call_agrees (limit l) false h = trim_agrees (length s - l) a

@@ -1,3 +1,4 @@
 pub mod Agree
 pub mod Stems
+pub mod Moves
 pub mod Runs

@@ -1,13 +1,15 @@
 -- The laws over every history.
-use Rattle.std.proofs.Common.{◌≡◌, ℕ, zero, suc, ◌+◌, ◌<◌, ◌≤◌, Bool, ◌⊎◌, List, [], ◌∷◌, ◌++◌, length, sym, refl, ap, ◌∙◌, inl, inr, arith}
+use Rattle.std.proofs.Common.{◌≡◌, ℕ, zero, suc, ◌+◌, ◌<◌, ◌≤◌, Bool, true, false, ◌⊎◌, List, [], ◌∷◌, ◌++◌, length, sym, refl, ap, ◌∙◌, inl, inr, arith}
+use Rattle.std.proofs.lemmas.Option.{slice_get_within}
 use Rattle.std.specs.List.{slice_get}
 use Rattle.kinds.specs.declared.slot.DirectSlot.TheVariants.{Allocated}
-use Rattle.history.specs.Slots.{Slots, or_free, at, count}
-use Rattle.history.specs.Calls.{Entry, Leads, made, next}
-use Rattle.history.specs.Roll.{Line, Roll, rolled, roll}
-use Rattle.history.specs.Laws.{In, Stands, Arrived, Keeps, Carries, Lawful}
-use Rattle.history.proofs.Agree.{Agrees, none, free, full, line, step_agrees}
-use Rattle.history.proofs.Stems.{New, Stem, stems, grows, passes_same}
+use Rattle.history.specs.Slots.{Slots, Held, ptr, or_free, at, count}
+use Rattle.history.specs.Calls.{Call, insert, edit, edit_all, remove, drain, clear, bring, hand_over, compress, trim, reallocate, limit, Entry, Leads, made, next}
+use Rattle.history.specs.Roll.{Line, Roll, standing, rolled, roll}
+use Rattle.history.specs.Laws.{In, Stands, Arrived, Carries, Ordered, Brings, Follows, Lawful}
+use Rattle.history.proofs.Agree.{Agrees, none, free, full, line, records_of, step_agrees}
+use Rattle.history.proofs.Stems.{New, Stem, stems, grows}
+use Rattle.history.proofs.Moves.{lines_rise, passes_sent, follows_order}
 
 module _ {G V : Type 0} where
   slot_low : {k : ℕ} {s : Slots G V} {ls : List (Line G V)} → Agrees G V k s ls → (l : Line G V) → In l ls → k ≤ l.stand.slot
@@ -51,27 +53,69 @@ module _ {G V : Type 0} where
     below : (m : Line G V) → In m r.lines → m.number < r.next
     one : (m n : Line G V) → In m r.lines → In n r.lines → m.number ≡ n.number → m ≡ n
 
-  -- the slot and generation of a line are those of the line that it was
-  stem_same : (e : Entry G V) (ls : List (Line G V)) (m : Line G V) (x : Stem e ls m) → (m.stand.slot ≡ x.line.stand.slot) × (m.stand.gen ≡ x.line.stand.gen)
-  stem_same e ls m x = passes_same e.call e.accepted x.line.stand m.stand x.passes
+  -- where the call sent the pointer of the line that m was
+  sent : (e : Entry G V) (ls : List (Line G V)) (m : Line G V) (x : Stem e ls m) → Follows e (standing ls) (ptr x.line.stand) (ptr m.stand) × (m.stand.gen ≡ x.line.stand.gen)
+  sent e ls m x = passes_sent e (standing ls) x.line.stand m.stand x.passes
+
+  -- two lines that were lines before keep their order
+  stems_order : (e : Entry G V) (r : Roll G V) (s : Slots G V) → Sound r s → (m n : Line G V) (x : Stem e r.lines m) (y : Stem e r.lines n) →
+      (x.line.stand.slot < y.line.stand.slot → m.stand.slot < n.stand.slot) × (x.line.stand.slot ≡ y.line.stand.slot → m.stand.slot ≡ n.stand.slot)
+  stems_order e r s d m n x y = follows_order e (standing r.lines) (ptr x.line.stand) (ptr m.stand) (ptr y.line.stand) (ptr n.stand) (lines_rise d.agrees) (sent e r.lines m x).0 (sent e r.lines n y).0
+
+  brings_one : (c : Call G V) (k : ℕ) (a b : Held G V) → Brings c k a → Brings c k b → a ≡ b
+  brings_one (insert p v) k a b x y = cc
+  brings_one (edit name v) k a b x y = absurd x
+  brings_one (edit_all names f) k a b x y = absurd x
+  brings_one (remove name) k a b x y = absurd x
+  brings_one (drain p) k a b x y = absurd x
+  brings_one clear k a b x y = absurd x
+  brings_one (bring hs) k a b x y = cc
+  brings_one hand_over k a b x y = absurd x
+  brings_one (compress f) k a b x y = absurd x
+  brings_one (trim n) k a b x y = absurd x
+  brings_one (reallocate n) k a b x y = absurd x
+  brings_one (limit l) k a b x y = absurd x
 
   new_old : (e : Entry G V) (r : Roll G V) (s : Slots G V) → Sound r s → (m n : Line G V) → New e r m → Stem e r.lines n → m.number ≡ n.number → ⊥
-  new_old e r s d m n x y k = grind (arith, d.below y.line y.was)
+  new_old e r s d m n x y k = omega (arith, d.below y.line y.was, x.number, y.number)
+
+  new_one : (e : Entry G V) (r : Roll G V) (m n : Line G V) → New e r m → New e r n → m.number ≡ n.number → m ≡ n
+  new_one e r m n x y k =
+      let p : x.place ≡ y.place = omega (arith, x.number, y.number) in
+      let b = brings_one e.call x.place m.stand n.stand x.brought (rw p y.brought) in
+      grind arith
 
   step_one : (e : Entry G V) (r : Roll G V) (s t : Slots G V) → Sound r s → Agrees G V 1 t (rolled e r).lines → (m n : Line G V) → In m (rolled e r).lines → In n (rolled e r).lines → m.number ≡ n.number → m ≡ n
   step_one e r s t d a m n i j k = go (stems e r m i) (stems e r n j)
     where
       go : New e r m ⊎ Stem e r.lines m → New e r n ⊎ Stem e r.lines n → m ≡ n
-      go (inl x) (inl y) = slot_one a m n i j (grind (arith, x.call, y.call, x.is, y.is))
+      go (inl x) (inl y) = new_one e r m n x y k
       go (inl x) (inr y) = absurd (new_old e r s d m n x y k)
       go (inr x) (inl y) = absurd (new_old e r s d n m y x (sym k))
-      go (inr x) (inr y) = slot_one a m n i j (grind (arith, d.one x.line y.line x.was y.was, stem_same e r.lines m x, stem_same e r.lines n y))
+      go (inr x) (inr y) =
+          let l = d.one x.line y.line x.was y.was (x.number ∙ k ∙ sym y.number) in
+          slot_one a m n i j ((stems_order e r s d m n x y).1 (ap (λ (z : Line G V). z.stand.slot) l))
+
+  new_below : (c : Call G V) (b : Bool) (r : Roll G V) (k : ℕ) (a : Held G V) → b ≡ true → Brings c k a → r.next + k < (rolled (record { call = c; accepted = b }) r).next
+  new_below c false r k a e x = cc
+  new_below (insert p v) true r k a e x = omega (arith, x.0)
+  new_below (edit name v) true r k a e x = absurd x
+  new_below (edit_all names f) true r k a e x = absurd x
+  new_below (remove name) true r k a e x = absurd x
+  new_below (drain p) true r k a e x = absurd x
+  new_below clear true r k a e x = absurd x
+  new_below (bring hs) true r k a e x = omega (arith, slice_get_within hs k a x)
+  new_below hand_over true r k a e x = absurd x
+  new_below (compress f) true r k a e x = absurd x
+  new_below (trim n) true r k a e x = absurd x
+  new_below (reallocate n) true r k a e x = absurd x
+  new_below (limit l) true r k a e x = absurd x
 
   step_below : (e : Entry G V) (r : Roll G V) (s : Slots G V) → Sound r s → (m : Line G V) → In m (rolled e r).lines → m.number < (rolled e r).next
   step_below e r s d m i = go (stems e r m i)
     where
       go : New e r m ⊎ Stem e r.lines m → m.number < (rolled e r).next
-      go (inl x) = grind arith
+      go (inl x) = omega (arith, x.number, new_below e.call e.accepted r x.place m.stand x.went x.brought)
       go (inr x) = omega (arith, grows e r, d.below x.line x.was, x.number)
 
 module _ {G V : Type 0} (alike : G → G → Bool) where
@@ -88,6 +132,7 @@ module _ {G V : Type 0} (alike : G → G → Bool) where
     only = at_slot;
     apart = slot_one d.agrees;
     one = d.one;
+    listed = records_of d.agrees;
     counted = c ∙ counted_at d.agrees;
   }
     where
@@ -108,40 +153,67 @@ module _ {G V : Type 0} (alike : G → G → Bool) where
     where
       go : ((k : Line G V) → In k (roll h).lines → Arrived h k) → New e (roll h) m ⊎ Stem e (roll h).lines m → Arrived (e ∷ h) m
       go rest (inl y) = record {
-        first = y.first;
+        first = m.stand;
+        place = y.place;
+        by = e.call;
         before = h;
         since = [];
-        whole = cc;
-        number = cc;
-        carried = cc;
+        whole = ap (λ b. record { call = e.call; accepted = b } ∷ h) y.went;
+        brought = y.brought;
+        number = y.number;
+        carried = refl;
+        reported = refl;
+        gen = refl;
       }
       go rest (inr y) =
           let a = rest y.line y.was in
+          let w = sent e (roll h).lines m y in
           record {
             first = a.first;
+            place = a.place;
+            by = a.by;
             before = a.before;
             since = e ∷ a.since;
-            whole = cc;
-            number = cc;
-            carried = (y.line.stand, a.carried, y.passes);
+            whole = cc a.whole;
+            brought = a.brought;
+            number = sym y.number ∙ a.number;
+            carried = (y.line.stand, a.carried, rw (← a.whole) y.passes);
+            reported = (ptr y.line.stand, a.reported, rw (← a.whole) w.0);
+            gen = w.1 ∙ a.gen;
           }
 
   grown : (later h : List (Entry G V)) → (roll h).next ≤ (roll (later ++ h)).next
   grown [] h = omega arith
   grown (e ∷ later) h = omega (arith, grown later h, grows e (roll (later ++ h)))
 
+  -- a line after a later call that has the number of an earlier line was a line before that call
+  old_stem : (e : Entry G V) (later h : List (Entry G V)) (s : Slots G V) → Leads alike h s → (l m : Line G V) → In l (roll h).lines → In m (roll (e ∷ later ++ h)).lines → l.number ≡ m.number → Stem e (roll (later ++ h)).lines m
+  old_stem e later h s k l m i j q = go (stems e (roll (later ++ h)) m j)
+    where
+      go : New e (roll (later ++ h)) m ⊎ Stem e (roll (later ++ h)).lines m → Stem e (roll (later ++ h)).lines m
+      go (inl y) = absurd (omega (arith, (sound h s k).below l i, grown later h, y.number))
+      go (inr y) = y
+
   kept : (later h : List (Entry G V)) (s : Slots G V) → Leads alike h s → (t : Slots G V) → Leads alike (later ++ h) t → Carries later h
   kept [] h s k t a l m i j e =
       let q = (sound h s k).one l m i j e in
-      record { carried = cc; slot = cc; gen = cc }
-  kept (e ∷ later) h s k t (next {s = u} a x) l m i j q = go (kept later h s k u a) (stems e (roll (later ++ h)) m j)
-    where
-      go : Carries later h → New e (roll (later ++ h)) m ⊎ Stem e (roll (later ++ h)).lines m → Keeps (e ∷ later) l m
-      go rest (inl y) = absurd (grind (arith, (sound h s k).below l i, grown later h))
-      go rest (inr y) =
-          let b = rest l y.line i y.was (q ∙ sym y.number) in
-          let w = stem_same e (roll (later ++ h)).lines m y in
-          record { carried = (y.line.stand, b.carried, y.passes); slot = w.0 ∙ b.slot; gen = w.1 ∙ b.gen }
+      record { carried = cc; reported = cc; gen = cc }
+  kept (e ∷ later) h s k t (next {s = u} a x) l m i j q =
+      let y = old_stem e later h s k l m i j q in
+      let b = kept later h s k u a l y.line i y.was (q ∙ sym y.number) in
+      let w = sent e (roll (later ++ h)).lines m y in
+      record { carried = (y.line.stand, b.carried, y.passes); reported = (ptr y.line.stand, b.reported, w.0); gen = w.1 ∙ b.gen }
+
+  ordered : (later h : List (Entry G V)) (s : Slots G V) → Leads alike h s → (t : Slots G V) → Leads alike (later ++ h) t → Ordered later h
+  ordered [] h s k t a l l' m m' i i' j j' e e' lt =
+      let q = (sound h s k).one l m i j e in
+      let q' = (sound h s k).one l' m' i' j' e' in
+      grind arith
+  ordered (e ∷ later) h s k t (next {s = u} a x) l l' m m' i i' j j' q q' lt =
+      let y = old_stem e later h s k l m i j q in
+      let y' = old_stem e later h s k l' m' i' j' q' in
+      let b = ordered later h s k u a l l' y.line y'.line i i' y.was y'.was (q ∙ sym y.number) (q' ∙ sym y'.number) lt in
+      (stems_order e (roll (later ++ h)) u (sound (later ++ h) u a) m m' y y').0 b
 
   -- the history up to an earlier moment led to slots too
   earlier : (later h : List (Entry G V)) (t : Slots G V) → Leads alike (later ++ h) t → (s : Slots G V) × Leads alike h s
@@ -153,7 +225,5 @@ module _ {G V : Type 0} (alike : G → G → Bool) where
     stands = λ h a. stands h s a len c;
     arrived = λ h a. arrived h s a;
     kept = λ later h a. let b = earlier later h s a in kept later h b.0 b.1 s a;
-    ordered = λ later h a l l' m m' i i' j j' e e' lt.
-        let b = earlier later h s a in
-        omega (arith, (kept later h b.0 b.1 s a l m i j e).slot, (kept later h b.0 b.1 s a l' m' i' j' e').slot);
+    ordered = λ later h a. let b = earlier later h s a in ordered later h b.0 b.1 s a;
   }

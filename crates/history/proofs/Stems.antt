@@ -1,23 +1,26 @@
 -- Each line after a call is a new one, or comes from a line before it.
-use Rattle.std.proofs.Common.{◌≡◌, ℕ, ◌≤◌, Bool, true, false, cond, eqb, ◌⊎◌, List, [], ◌∷◌, refl, inl, inr, arith}
+use Rattle.std.proofs.Common.{◌≡◌, ℕ, suc, ◌+◌, ◌≤◌, Bool, true, false, cond, eqb, ◌⊎◌, List, [], ◌∷◌, Some, None, refl, inl, inr, arith}
+use Rattle.std.specs.List.{slice_get}
 use Rattle.history.specs.Slots.{Held, ptr}
-use Rattle.history.specs.Calls.{slot_of, Call, insert, edit, remove, clear, trim, reallocate, limit, Entry}
-use Rattle.history.specs.Roll.{Line, Roll, enter, valued, put_in, without, rolled}
-use Rattle.history.specs.Laws.{In, Becomes, Passes}
+use Rattle.history.specs.Mapped.{rest, moving, pairs}
+use Rattle.history.specs.Calls.{slot_of, slots_of, Call, insert, edit, edit_all, remove, drain, clear, bring, hand_over, compress, trim, reallocate, limit, Entry}
+use Rattle.history.specs.Roll.{Line, Roll, standing, enter, valued, put_in, put_each, without, resettled, numbered, rolled}
+use Rattle.history.specs.Laws.{In, latest, or_kept, Passes, Brings}
 
 module _ {G V : Type 0} where
-  -- the line that an accepted insertion adds
+  -- a line that an accepted call adds
   pub record New (e : Entry G V) (r : Roll G V) (m : Line G V) : Type 0 where
-    pub first : Held G V
-    pub call : e ≡ record { call = insert (ptr first) first.value; accepted = true }
-    pub is : m ≡ record { number = r.next; stand = first }
+    pub place : ℕ
+    pub went : e.accepted ≡ true
+    pub brought : Brings e.call place m.stand
+    pub number : m.number ≡ r.next + place
 
   -- the line before the call that m was
   pub record Stem (e : Entry G V) (ls : List (Line G V)) (m : Line G V) : Type 0 where
     pub line : Line G V
     pub was : In line ls
     pub number : line.number ≡ m.number
-    pub passes : Passes e line.stand m.stand
+    pub passes : Passes e (standing ls) line.stand m.stand
 
   in_enter : (l m : Line G V) (ls : List (Line G V)) → In m (enter l ls) → (m ≡ l) ⊎ In m ls
   in_enter l m [] i = grind arith
@@ -28,9 +31,46 @@ module _ {G V : Type 0} where
   in_put n v m (l ∷ ls) (inl e) = (l, inl refl, e)
   in_put n v m (l ∷ ls) (inr i) = let b = in_put n v m ls i in (b.0, inr b.1, b.2)
 
+  then_put : (n : ℕ) (v : V) (ns : List ℕ) (vs : List V) (l k m : Line G V) → k ≡ cond (eqb l.stand.slot n) (valued v l) l →
+      m ≡ record { number = k.number; stand = record { slot = k.stand.slot; gen = k.stand.gen; value = latest k.stand.slot ns vs k.stand.value } } →
+      m ≡ record { number = l.number; stand = record { slot = l.stand.slot; gen = l.stand.gen; value = latest l.stand.slot (n ∷ ns) (v ∷ vs) l.stand.value } }
+  then_put n v ns vs l k m e d = grind arith
+
+  in_put_each : (ns : List ℕ) (vs : List V) (m : Line G V) (ls : List (Line G V)) → In m (put_each ns vs ls) →
+      (l : Line G V) × In l ls × (m ≡ record { number = l.number; stand = record { slot = l.stand.slot; gen = l.stand.gen; value = latest l.stand.slot ns vs l.stand.value } })
+  in_put_each [] vs m ls i = (m, i, refl)
+  in_put_each (n ∷ ns) [] m ls i = (m, i, refl)
+  in_put_each (n ∷ ns) (v ∷ vs) m ls i =
+      let b = in_put_each ns vs m (put_in n v ls) i in
+      let a = in_put n v b.0 ls b.1 in
+      (a.0, a.1, then_put n v ns vs a.0 b.0 m a.2 b.2)
+
   in_without : (n : ℕ) (m : Line G V) (ls : List (Line G V)) → In m (without n ls) → In m ls
   in_without n m [] i = absurd i
   in_without n m (l ∷ ls) i = grind (arith, in_without n m ls)
+
+  in_numbered : (k : ℕ) (hs : List (Held G V)) (m : Line G V) → In m (numbered k hs) → (i : ℕ) × (slice_get hs i ≡ Some m.stand) × (m.number ≡ k + i)
+  in_numbered k [] m i = absurd i
+  in_numbered k (h ∷ hs) m (inl e) = (0, grind arith, grind arith)
+  in_numbered k (h ∷ hs) m (inr i) = let b = in_numbered (suc k) hs m i in (suc b.0, b.1, omega (arith, b.2))
+
+  -- a line that came to the slots from k on, its place among them counted from 0
+  record Resettled (k : ℕ) (vs : List V) (ls : List (Line G V)) (m : Line G V) : Type 0 where
+    line : Line G V
+    place : ℕ
+    was : In line ls
+    number : line.number ≡ m.number
+    reported : In (record { old = ptr line.stand; new = ptr m.stand }) (pairs (moving k (standing ls)))
+    gen : m.stand.gen ≡ line.stand.gen
+    slot : m.stand.slot ≡ k + place
+    value : m.stand.value ≡ or_kept line.stand.value (slice_get vs place)
+
+  in_resettled : (k : ℕ) (vs : List V) (ls : List (Line G V)) (m : Line G V) → In m (resettled k vs ls) → Resettled k vs ls m
+  in_resettled k vs [] m i = absurd i
+  in_resettled k vs (l ∷ ls) m (inl e) = record { line = l; place = 0; was = inl refl; number = grind arith; reported = inl (grind arith); gen = grind arith; slot = grind arith; value = grind arith }
+  in_resettled k vs (l ∷ ls) m (inr i) =
+      let b = in_resettled (suc k) (rest vs) ls m i in
+      record { line = b.line; place = suc b.place; was = inr b.was; number = b.number; reported = inr b.reported; gen = b.gen; slot = omega (arith, b.slot); value = grind (arith, b.value) }
 
   valued_stem : (name-slot : ℕ) (v : V) (l m : Line G V) → m ≡ cond (eqb l.stand.slot name-slot) (valued v l) l →
       (l.number ≡ m.number) × (m.stand ≡ cond (eqb l.stand.slot name-slot) (record { slot = l.stand.slot; gen = l.stand.gen; value = v }) l.stand)
@@ -38,15 +78,25 @@ module _ {G V : Type 0} where
 
   call_stems : (c : Call G V) (b : Bool) (r : Roll G V) (m : Line G V) → In m (rolled (record { call = c; accepted = b }) r).lines → New (record { call = c; accepted = b }) r m ⊎ Stem (record { call = c; accepted = b }) r.lines m
   call_stems (insert p v) true r m i = elim (in_enter _ m r.lines i) [
-    | inl e ↦ inl (record { first = record { slot = p.slot; gen = p.gen; value = v }; call = refl; is = e })
+    | inl e ↦ inl (record { place = 0; went = refl; brought = (refl, cc); number = grind arith })
     | inr j ↦ inr (record { line = m; was = j; number = refl; passes = refl })
   ]
   call_stems (edit name v) true r m i =
       let b = in_put (slot_of name) v m r.lines i in
       let d = valued_stem (slot_of name) v b.0 m b.2 in
       inr (record { line = b.0; was = b.1; number = d.0; passes = d.1 })
+  call_stems (edit_all names f) true r m i =
+      let b = in_put_each (slots_of names) _ m r.lines i in
+      inr (record { line = b.0; was = b.1; number = cc; passes = cc })
   call_stems (remove name) true r m i = inr (record { line = m; was = in_without (slot_of name) m r.lines i; number = refl; passes = refl })
+  call_stems (drain None) true r m i = inr (record { line = m; was = i; number = refl; passes = refl })
+  call_stems (drain (Some p)) true r m i = inr (record { line = m; was = in_without p.slot m r.lines i; number = refl; passes = refl })
   call_stems clear true r m i = absurd i
+  call_stems (bring hs) true r m i = let b = in_numbered r.next hs m i in inl (record { place = b.0; went = refl; brought = b.1; number = b.2 })
+  call_stems hand_over true r m i = absurd i
+  call_stems (compress f) true r m i =
+      let b = in_resettled 1 (f (moving 1 (standing r.lines))) r.lines m i in
+      inr (record { line = b.line; was = b.was; number = b.number; passes = record { reported = b.reported; gen = b.gen; value = grind (arith, b.slot, b.value) } })
   call_stems (trim k) true r m i = inr (record { line = m; was = i; number = refl; passes = refl })
   call_stems (reallocate n) true r m i = inr (record { line = m; was = i; number = refl; passes = refl })
   call_stems (limit l) true r m i = inr (record { line = m; was = i; number = refl; passes = refl })
@@ -60,11 +110,3 @@ module _ {G V : Type 0} where
 
   pub grows : (e : Entry G V) (r : Roll G V) → r.next ≤ (rolled e r).next
   grows e r = call_grows e.call e.accepted r
-
-  -- a call leaves a record's slot and generation
-  call_same : (c : Call G V) (old new : Held G V) → Becomes c old new → (new.slot ≡ old.slot) × (new.gen ≡ old.gen)
-  call_same c old new e = grind arith
-
-  pub passes_same : (c : Call G V) (b : Bool) (old new : Held G V) → Passes (record { call = c; accepted = b }) old new → (new.slot ≡ old.slot) × (new.gen ≡ old.gen)
-  passes_same c true old new e = call_same c old new e
-  passes_same c false old new e = grind arith

@@ -1,9 +1,12 @@
 -- What holds of an arena after every history that leads to it.
-use Rattle.std.specs.Prelude.{◌≡◌, ℕ, ◌<◌, Bool, true, cond, ◌⊎◌, List, [], ◌∷◌, ◌++◌, length, ◌==◌}
+use Rattle.std.specs.Prelude.{◌≡◌, ℕ, ◌+◌, ◌<◌, Bool, true, cond, ◌⊎◌, List, [], ◌∷◌, ◌++◌, length, Some, None, Option, ◌==◌}
+use Rattle.std.specs.List.{slice_get}
+use Rattle.kinds.specs.Places.{slot_at}
 use Rattle.kinds.specs.declared.slot.DirectSlot.TheVariants.{Allocated}
-use Rattle.history.specs.Slots.{Slots, Held, ptr, at}
-use Rattle.history.specs.Calls.{slot_of, Call, insert, edit, remove, clear, trim, reallocate, limit, Entry, Leads}
-use Rattle.history.specs.Roll.{Line, roll}
+use Rattle.history.specs.Slots.{Slots, Ptr, Held, ptr, at}
+use Rattle.history.specs.Mapped.{records, in_place, moving, report, those_named}
+use Rattle.history.specs.Calls.{slot_of, slots_of, Call, insert, edit, edit_all, remove, drain, clear, bring, hand_over, compress, trim, reallocate, limit, Entry, Leads}
+use Rattle.history.specs.Roll.{Line, standing, roll}
 
 abbrev pub In : {X : Type 0} → X → List X → Type 0
 In x [] = ⊥
@@ -16,45 +19,119 @@ pub record Stands {G V : Type 0} (lines : List (Line G V)) (s : Slots G V) (len 
   pub only : (n : ℕ) (g : G) (v : V) → at n s ≡ Allocated g v → (l : Line G V) × In l lines × (l.stand ≡ record { slot = n; gen = g; value = v })
   pub apart : (l m : Line G V) → In l lines → In m lines → l.stand.slot ≡ m.stand.slot → l ≡ m
   pub one : (l m : Line G V) → In l lines → In m lines → l.number ≡ m.number → l ≡ m
+  pub listed : records s ≡ standing lines
   pub counted : len ≡ length lines
 
--- What a record that stands before an accepted call, and after it, is after it.
-abbrev pub Becomes : {G V : Type 0} → Call G V → Held G V → Held G V → Type 0
-Becomes (insert p v) old new = new ≡ old
-Becomes (edit name v) old new = new ≡ cond (old.slot == slot_of name) (record { slot = old.slot; gen = old.gen; value = v }) old
-Becomes (remove name) old new = new ≡ old
-Becomes clear old new = new ≡ old
-Becomes (trim k) old new = new ≡ old
-Becomes (reallocate r) old new = new ≡ old
-Becomes (limit l) old new = new ≡ old
+-- What is put at slot n last, of values put at these slots in order; v where nothing is.
+abbrev pub latest : {V : Type 0} → ℕ → List ℕ → List V → V → V
+latest n [] vs v = v
+latest n (m ∷ ms) [] v = v
+latest n (m ∷ ms) (u ∷ us) v = latest n ms us (cond (n == m) u v)
 
-abbrev pub Passes : {G V : Type 0} → Entry G V → Held G V → Held G V → Type 0
-Passes e old new = cond e.accepted (Becomes e.call old new) (new ≡ old)
+abbrev pub or_kept : {V : Type 0} → V → Option V → V
+or_kept v None = v
+or_kept v (Some u) = u
 
--- A record carried through later calls, one after the other: its slot, its generation and its latest value.
-abbrev pub Carried : {G V : Type 0} → List (Entry G V) → Held G V → Held G V → Type 0
-Carried [] old new = new ≡ old
-Carried {G} {V} (e ∷ later) old new = (between : Held G V) × Carried later old between × Passes e between new
+-- What a compression makes of a record, of those that stand: its pointers are a pair of the report, its generation
+-- stays, and its value is that which the mapper gives in its place.
+pub record Moved {G V : Type 0} (given : List V) (all : List (Held G V)) (old new : Held G V) : Type 0 where
+  pub reported : In (record { old = ptr old; new = ptr new }) (report all)
+  pub gen : new.gen ≡ old.gen
+  pub value : new.value ≡ or_kept old.value (slot_at given new.slot)
 
--- A standing record was brought in by an accepted insertion: its number is how many came before it, and what was
--- inserted, carried through the calls since, is what stands.
+-- What a record that stands before an accepted call, and after it, is after it; `all` stand before it.
+abbrev pub Becomes : {G V : Type 0} → Call G V → List (Held G V) → Held G V → Held G V → Type 0
+Becomes (insert p v) all old new = new ≡ old
+Becomes (edit name v) all old new = new ≡ cond (old.slot == slot_of name) (record { slot = old.slot; gen = old.gen; value = v }) old
+Becomes (edit_all names f) all old new =
+    new ≡ record { slot = old.slot; gen = old.gen; value = latest old.slot (slots_of names) (f (in_place (those_named (slots_of names) all))) old.value }
+Becomes (remove name) all old new = new ≡ old
+Becomes (drain p) all old new = new ≡ old
+Becomes clear all old new = new ≡ old
+Becomes (bring hs) all old new = ⊥
+Becomes hand_over all old new = new ≡ old
+Becomes (compress f) all old new = Moved (f (moving 1 all)) all old new
+Becomes (trim k) all old new = new ≡ old
+Becomes (reallocate r) all old new = new ≡ old
+Becomes (limit l) all old new = new ≡ old
+
+abbrev pub Passes : {G V : Type 0} → Entry G V → List (Held G V) → Held G V → Held G V → Type 0
+Passes e all old new = cond e.accepted (Becomes e.call all old new) (new ≡ old)
+
+-- what stands after a history
+abbrev pub standing_after : {G V : Type 0} → List (Entry G V) → List (Held G V)
+standing_after h = standing (roll h).lines
+
+-- A record carried through the calls that came after a history, one after the other: its slot, its generation and its
+-- latest value.
+abbrev pub Carried : {G V : Type 0} → (later h : List (Entry G V)) → Held G V → Held G V → Type 0
+Carried [] h old new = new ≡ old
+Carried {G} {V} (e ∷ later) h old new = (between : Held G V) × Carried later h old between × Passes e (standing_after (later ++ h)) between new
+
+-- where an accepted call leaves a pointer's record: a compression by its report, any other call in its slot
+abbrev pub Sends : {G V : Type 0} → Call G V → List (Held G V) → Ptr G → Ptr G → Type 0
+Sends (insert p v) all old new = new ≡ old
+Sends (edit name v) all old new = new ≡ old
+Sends (edit_all names f) all old new = new ≡ old
+Sends (remove name) all old new = new ≡ old
+Sends (drain p) all old new = new ≡ old
+Sends clear all old new = new ≡ old
+Sends (bring hs) all old new = new ≡ old
+Sends hand_over all old new = new ≡ old
+Sends (compress f) all old new = In (record { old = old; new = new }) (report all)
+Sends (trim k) all old new = new ≡ old
+Sends (reallocate r) all old new = new ≡ old
+Sends (limit l) all old new = new ≡ old
+
+abbrev pub Follows : {G V : Type 0} → Entry G V → List (Held G V) → Ptr G → Ptr G → Type 0
+Follows e all old new = cond e.accepted (Sends e.call all old new) (new ≡ old)
+
+-- A pointer carried through the report of each later compression.
+abbrev pub Reported : {G V : Type 0} → (later h : List (Entry G V)) → Ptr G → Ptr G → Type 0
+Reported [] h old new = new ≡ old
+Reported {G} {V} (e ∷ later) h old new =
+    (between : Ptr G) × Reported later h old between × Follows e (standing_after (later ++ h)) between new
+
+-- The k-th record, counted from 0, that an accepted call brings in.
+abbrev pub Brings : {G V : Type 0} → Call G V → ℕ → Held G V → Type 0
+Brings (insert p v) k first = (k ≡ 0) × (first ≡ record { slot = p.slot; gen = p.gen; value = v })
+Brings (edit name v) k first = ⊥
+Brings (edit_all names f) k first = ⊥
+Brings (remove name) k first = ⊥
+Brings (drain p) k first = ⊥
+Brings clear k first = ⊥
+Brings (bring hs) k first = slice_get hs k ≡ Some first
+Brings hand_over k first = ⊥
+Brings (compress f) k first = ⊥
+Brings (trim n) k first = ⊥
+Brings (reallocate r) k first = ⊥
+Brings (limit l) k first = ⊥
+
+-- A standing record was brought in by an accepted insertion, clone or transfer: its number is how many came before it.
+-- What was brought in, carried through the calls since, is what stands: in its first slot, carried through the report
+-- of each compression since, and under its first generation.
 pub record Arrived {G V : Type 0} (h : List (Entry G V)) (l : Line G V) : Type 0 where
   pub first : Held G V
+  pub place : ℕ
+  pub by : Call G V
   pub before : List (Entry G V)
   pub since : List (Entry G V)
-  pub whole : h ≡ since ++ (record { call = insert (ptr first) first.value; accepted = true } ∷ before)
-  pub number : l.number ≡ (roll before).next
-  pub carried : Carried since first l.stand
+  pub whole : h ≡ since ++ (record { call = by; accepted = true } ∷ before)
+  pub brought : Brings by place first
+  pub number : l.number ≡ (roll before).next + place
+  pub carried : Carried since (record { call = by; accepted = true } ∷ before) first l.stand
+  pub reported : Reported since (record { call = by; accepted = true } ∷ before) (ptr first) (ptr l.stand)
+  pub gen : l.stand.gen ≡ first.gen
 
 -- Of a record that stood earlier and stands now: what stood then, carried through the calls since, is what stands now,
--- in the same slot and under the same generation.
-pub record Keeps {G V : Type 0} (later : List (Entry G V)) (l m : Line G V) : Type 0 where
-  pub carried : Carried later l.stand m.stand
-  pub slot : m.stand.slot ≡ l.stand.slot
+-- in the slot where the reports since lead, and under the same generation.
+pub record Keeps {G V : Type 0} (later h : List (Entry G V)) (l m : Line G V) : Type 0 where
+  pub carried : Carried later h l.stand m.stand
+  pub reported : Reported later h (ptr l.stand) (ptr m.stand)
   pub gen : m.stand.gen ≡ l.stand.gen
 
 abbrev pub Carries : {G V : Type 0} → (later h : List (Entry G V)) → Type 0
-Carries {G} {V} later h = (l m : Line G V) → In l (roll h).lines → In m (roll (later ++ h)).lines → l.number ≡ m.number → Keeps later l m
+Carries {G} {V} later h = (l m : Line G V) → In l (roll h).lines → In m (roll (later ++ h)).lines → l.number ≡ m.number → Keeps later h l m
 
 -- Any two records keep the order of slots of every earlier moment at which both stood.
 abbrev pub Ordered : {G V : Type 0} → (later h : List (Entry G V)) → Type 0

@@ -1,8 +1,9 @@
 -- The roll of an arena's records: what each accepted call does to their lines. It is fed calls and whether they were
 -- accepted, and never looks at the slots.
-use Rattle.std.specs.Prelude.{ℕ, suc, cond, List, [], ◌∷◌, ◌==◌, nat_lt}
+use Rattle.std.specs.Prelude.{ℕ, suc, ◌+◌, cond, List, [], ◌∷◌, length, Some, None, ◌==◌, nat_lt}
 use Rattle.history.specs.Slots.{Held}
-use Rattle.history.specs.Calls.{slot_of, Call, insert, edit, remove, clear, trim, reallocate, limit, Entry}
+use Rattle.history.specs.Mapped.{in_place, moving, given_or, rest, those_named}
+use Rattle.history.specs.Calls.{slot_of, slots_of, Call, insert, edit, edit_all, remove, drain, clear, bring, hand_over, compress, trim, reallocate, limit, Entry}
 
 -- A record: its number by arrival, and where it stands, under which generation, with which value.
 pub record Line (G V : Type 0) : Type 0 where
@@ -13,6 +14,11 @@ pub record Line (G V : Type 0) : Type 0 where
 pub record Roll (G V : Type 0) : Type 0 where
   pub next : ℕ
   pub lines : List (Line G V)
+
+-- what stands, by rising slot
+abbrev pub standing : {G V : Type 0} → List (Line G V) → List (Held G V)
+standing [] = []
+standing (l ∷ ls) = l.stand ∷ standing ls
 
 -- the line goes in by its slot
 abbrev pub enter : {G V : Type 0} → Line G V → List (Line G V) → List (Line G V)
@@ -27,10 +33,26 @@ abbrev pub put_in : {G V : Type 0} → ℕ → V → List (Line G V) → List (L
 put_in n v [] = []
 put_in n v (l ∷ ls) = cond (l.stand.slot == n) (valued v l) l ∷ put_in n v ls
 
+-- values put into the lines at these slots, in order
+abbrev pub put_each : {G V : Type 0} → List ℕ → List V → List (Line G V) → List (Line G V)
+put_each [] vs ls = ls
+put_each (n ∷ ns) [] ls = ls
+put_each (n ∷ ns) (v ∷ vs) ls = put_each ns vs (put_in n v ls)
+
 -- the line at slot n ends
 abbrev pub without : {G V : Type 0} → ℕ → List (Line G V) → List (Line G V)
 without n [] = []
 without n (l ∷ ls) = cond (l.stand.slot == n) (without n ls) (l ∷ without n ls)
+
+-- the lines get the slots from k on, by rising slot, and these values
+abbrev pub resettled : {G V : Type 0} → ℕ → List V → List (Line G V) → List (Line G V)
+resettled k vs [] = []
+resettled k vs (l ∷ ls) = record { number = l.number; stand = record { slot = k; gen = l.stand.gen; value = given_or l.stand.value vs } } ∷ resettled (suc k) (rest vs) ls
+
+-- a line for each record, numbered as they come
+abbrev pub numbered : {G V : Type 0} → ℕ → List (Held G V) → List (Line G V)
+numbered k [] = []
+numbered k (h ∷ hs) = record { number = k; stand = h } ∷ numbered (suc k) hs
 
 abbrev pub told : {G V : Type 0} → Call G V → Roll G V → Roll G V
 told (insert p v) r = record {
@@ -38,8 +60,17 @@ told (insert p v) r = record {
   lines = enter (record { number = r.next; stand = record { slot = p.slot; gen = p.gen; value = v } }) r.lines;
 }
 told (edit name v) r = record { next = r.next; lines = put_in (slot_of name) v r.lines }
+told (edit_all names f) r = record {
+  next = r.next;
+  lines = put_each (slots_of names) (f (in_place (those_named (slots_of names) (standing r.lines)))) r.lines;
+}
 told (remove name) r = record { next = r.next; lines = without (slot_of name) r.lines }
+told (drain None) r = r
+told (drain (Some p)) r = record { next = r.next; lines = without p.slot r.lines }
 told clear r = record { next = r.next; lines = [] }
+told (bring hs) r = record { next = r.next + length hs; lines = numbered r.next hs }
+told hand_over r = record { next = r.next; lines = [] }
+told (compress f) r = record { next = r.next; lines = resettled 1 (f (moving 1 (standing r.lines))) r.lines }
 told (trim k) r = r
 told (reallocate n) r = r
 told (limit l) r = r

@@ -10,4 +10,4 @@ pub mod write;
 
 pub use ends::{first_record, last_record, pop_free};
 pub use find::{Found, find_record, is_vacant, record_at};
-pub use write::{insert_record, overwrite};
+pub use write::{insert_record, overwrite, place_record};

@@ -24,10 +24,10 @@ fn fill_to<G: Copy, V: Copy, S: NonZeroInxGenericStack<Slot = DirectSlot<G, V>>>
     }
 }
 
-// A record comes into a slot that is vacant and within the capacity; free slots are added up to it. It comes as a
-// generation and a value, here and below: a rule of this project for what is put into slots.
+/// A record comes into a slot that is vacant and within the capacity; free slots are added up to it.
+// It comes as a generation and a value, here and below: a rule of this project for what is put into slots.
 #[tactic(auto, using(crate::proofs::Places::write_vacant))]
-fn place<G: Copy, V: Copy, S: NonZeroInxGenericStack<Slot = DirectSlot<G, V>>>(
+pub fn place_record<G: Copy, V: Copy, S: NonZeroInxGenericStack<Slot = DirectSlot<G, V>>>(
     m: &mut S,
     n: usize,
     generation: G,
@@ -63,7 +63,7 @@ pub fn insert_record<G: Copy, V: Copy, S: NonZeroInxGenericStack<Slot = DirectSl
     if !is_vacant(m, n) {
         return Err(DirectInsertionError::ExistingElementAtIndex);
     }
-    place(m, n, generation, value);
+    place_record(m, n, generation, value);
     Ok(())
 }
 

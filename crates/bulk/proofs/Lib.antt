@@ -1,0 +1,4 @@
+pub mod Brought
+pub mod Cut
+pub mod Drops
+pub mod Gathered

@@ -1,0 +1,85 @@
+-- What a call on many records shows its mapper of them, and what records and slots become by the values that it gives.
+use Rattle.std.specs.Prelude.{ℕ, suc, Bool, true, cond, ◌&&◌, List, [], ◌∷◌, ◌++◌, ◌==◌, nat_lt}
+use Rattle.kinds.specs.declared.slot.DirectSlot.TheVariants.{Free, Allocated}
+use Rattle.history.specs.Slots.{Slots, Ptr, Held, to, ptr, at, held, with_value, write}
+
+-- A pointer before a call and after it.
+pub record Pair (H G : Type 0) : Type 0 where
+  pub old : Ptr H
+  pub new : Ptr G
+
+-- What a mapper is shown of a record: its pointers, and its value.
+pub record Shown (H G U : Type 0) : Type 0 where
+  pub pair : Pair H G
+  pub value : U
+
+-- A mapper at a call: the values that it gives for all that it is shown, in order.
+abbrev pub Mapping : (G V : Type 0) → Type 0
+Mapping G V = List (Shown G G V) → List V
+
+-- the records of slots, by rising slot
+abbrev pub records : {G V : Type 0} → Slots G V → List (Held G V)
+records s = held 1 s
+
+-- where the call leaves records in their slots
+abbrev pub in_place : {G V : Type 0} → List (Held G V) → List (Shown G G V)
+in_place [] = []
+in_place (h ∷ hs) = record { pair = record { old = ptr h; new = ptr h }; value = h.value } ∷ in_place hs
+
+-- where it moves them, one after the other, to the slots from k on
+abbrev pub moving : {G V : Type 0} → ℕ → List (Held G V) → List (Shown G G V)
+moving k [] = []
+moving k (h ∷ hs) = record { pair = record { old = ptr h; new = to k h.gen }; value = h.value } ∷ moving (suc k) hs
+
+abbrev pub pairs : {H G U : Type 0} → List (Shown H G U) → List (Pair H G)
+pairs [] = []
+pairs (x ∷ xs) = x.pair ∷ pairs xs
+
+-- A compression's report: the old and the new pointer of each record, by rising slot.
+abbrev pub report : {G V : Type 0} → List (Held G V) → List (Pair G G)
+report hs = pairs (moving 1 hs)
+
+-- the value given first, or the record's own where none was given
+abbrev pub given_or : {V : Type 0} → V → List V → V
+given_or v [] = v
+given_or v (u ∷ us) = u
+
+abbrev pub rest : {V : Type 0} → List V → List V
+rest [] = []
+rest (v ∷ vs) = vs
+
+-- a compression's slots: the records one after the other, with their new values, and no slot behind them
+abbrev pub packed : {G V : Type 0} → List V → List (Held G V) → Slots G V
+packed vs [] = []
+packed vs (h ∷ hs) = Allocated h.gen (given_or h.value vs) ∷ packed (rest vs) hs
+
+-- the records that stand at slot n: one, or none
+abbrev pub those_at : {G V : Type 0} → ℕ → List (Held G V) → List (Held G V)
+those_at n [] = []
+those_at n (h ∷ hs) = cond (h.slot == n) (h ∷ those_at n hs) (those_at n hs)
+
+-- the records at the slots of a list, in its order
+abbrev pub those_named : {G V : Type 0} → List ℕ → List (Held G V) → List (Held G V)
+those_named [] hs = []
+those_named (n ∷ ns) hs = those_at n hs ++ those_named ns hs
+
+-- values put into the records at the slots of a list, one after the other
+abbrev pub put_all : {G V : Type 0} → List ℕ → List V → Slots G V → Slots G V
+put_all [] vs s = s
+put_all (n ∷ ns) [] s = s
+put_all (n ∷ ns) (v ∷ vs) s = put_all ns vs (write n (with_value v (at n s)) s)
+
+-- records brought in, one after the other
+abbrev pub settle : {G V : Type 0} → Slots G V → List (Held G V) → Slots G V
+settle s [] = s
+settle s (h ∷ hs) = settle (write h.slot (Allocated h.gen h.value) s) hs
+
+-- each in a slot above those before it, and above n
+abbrev pub rising : {G V : Type 0} → ℕ → List (Held G V) → Bool
+rising n [] = true
+rising n (h ∷ hs) = nat_lt n h.slot && rising h.slot hs
+
+-- all slots free
+abbrev pub freed : {G V : Type 0} → Slots G V → Slots G V
+freed [] = []
+freed (x ∷ s) = Free ∷ freed s
