@@ -1,1 +1,3 @@
+pub mod Drains
+pub mod Named
 pub mod Room

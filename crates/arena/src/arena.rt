@@ -57,6 +57,7 @@ impl<P: Ptr, V: Copy, S: NonZeroInxGenericStack<Slot = DirectSlot<P::Gen, V>>> D
     /// How many records stand; and with it what holds of them after every history that led here.
     pub fn len(&self) -> usize
         ensures number { result ≡ count (S.list self.now) }
+        ensures indexed { result ≤ P.Inx.largest }
         ensures lawful { Lawful P.Gen.eq (S.list self.now) result }
     {
         self.len

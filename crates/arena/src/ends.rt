@@ -1,21 +1,13 @@
 ghost use Rattle.std.specs.Prelude.{◌≡◌, ◌≤◌, not, is_some, ◌==◌};
 ghost use Rattle.history.specs.Slots.{count, held};
-ghost use Rattle.slots.specs.Records.{first_of, last_of};
+ghost use Rattle.slots.specs.Records.{first_of, last_of, first_from, last_to};
 ghost use Rattle.arena.specs.Answers.{pointer_of};
 
 use crate::arena::DirectArena;
-use kinds::{DirectSlot, Ptr, PtrInx};
-use slots::{first_record, last_record};
+use bulk::point::point;
+use kinds::{DirectSlot, Ptr};
+use slots::{first_record, last_record, record_at_or_above, record_at_or_below};
 use stack::NonZeroInxGenericStack;
-
-// The pointer of a slot's number and a generation.
-fn point<P: Ptr>(n: usize, generation: P::Gen) -> P
-    requires low { 1 ≤ n }
-    requires high { n ≤ P.Inx.largest }
-    ensures { result ≡ P.made (P.Inx.indexed n) generation }
-{
-    P::from_raw(P::Inx::try_from_usize(n).unwrap(), generation)
-}
 
 impl<P: Ptr, V: Copy, S: NonZeroInxGenericStack<Slot = DirectSlot<P::Gen, V>>> DirectArena<
     P,
@@ -38,6 +30,22 @@ impl<P: Ptr, V: Copy, S: NonZeroInxGenericStack<Slot = DirectSlot<P::Gen, V>>> D
         ensures absent { is_some result ≡ not (count (S.list self.now) == 0) }
     {
         let found = last_record(&self.m)?;
+        Some(point(found.slot, found.generation))
+    }
+
+    /// The pointer of the record in the lowest slot from `n` on; none where no record stands there.
+    pub fn find_at_or_above(&self, n: usize) -> Option<P>
+        ensures { result ≡ pointer_of (λ n γ. P.made (P.Inx.indexed n) γ) (first_from n (held 1 (S.list self.now))) }
+    {
+        let found = record_at_or_above(&self.m, n)?;
+        Some(point(found.slot, found.generation))
+    }
+
+    /// The pointer of the record in the highest slot up to `n`; none where no record stands there.
+    pub fn find_at_or_below(&self, n: usize) -> Option<P>
+        ensures { result ≡ pointer_of (λ n γ. P.made (P.Inx.indexed n) γ) (last_to n (held 1 (S.list self.now))) }
+    {
+        let found = record_at_or_below(&self.m, n)?;
         Some(point(found.slot, found.generation))
     }
 }

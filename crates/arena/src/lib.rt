@@ -1,13 +1,16 @@
-//! The arena: records under pointers in the slots of any stack, and every call on one record.
-//! It uses `kinds`, `invalidation`, `outcome`, `history`, `slots` and `stack`'s traits; it knows no stack and no text.
+//! The arena: records under pointers in the slots of any stack, calls on one and on many, advancers and drains.
+//! It uses every crate from `kinds` to `bulk`, `mapper`, and `stack`'s traits; it knows no stack and no text.
 //! Each call that may alter an arena promises the step that histories are made of; `len` carries the laws over them.
 
 #![tactic(auto)]
 
+pub mod advancer;
 pub mod arena;
 pub mod compress;
 pub mod copy;
+pub mod drain;
 pub mod edit;
+pub mod edits;
 pub mod ends;
 pub mod find;
 pub mod insert;

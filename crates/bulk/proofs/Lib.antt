@@ -1,4 +1,6 @@
 pub mod Brought
+pub mod Cited
 pub mod Cut
 pub mod Drops
 pub mod Gathered
+pub mod Kept

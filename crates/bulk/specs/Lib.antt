@@ -1,2 +1,3 @@
 pub mod Given
 pub mod Brought
+pub mod Edits

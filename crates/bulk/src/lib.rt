@@ -6,4 +6,5 @@
 
 pub mod compress;
 pub mod copy;
+pub mod edits;
 pub mod point;

@@ -17,6 +17,11 @@ pub record Shown (H G U : Type 0) : Type 0 where
 abbrev pub Mapping : (G V : Type 0) → Type 0
 Mapping G V = List (Shown G G V) → List V
 
+-- the mapper that keeps values
+abbrev pub kept : {G V : Type 0} → Mapping G V
+kept [] = []
+kept (x ∷ xs) = x.value ∷ kept xs
+
 -- the records of slots, by rising slot
 abbrev pub records : {G V : Type 0} → Slots G V → List (Held G V)
 records s = held 1 s

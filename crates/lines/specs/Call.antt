@@ -4,7 +4,7 @@ use Rattle.lines.specs.declared.call.Call.{Call}
 use Rattle.lines.specs.declared.call.Call.TheVariants as call
 use Rattle.text.specs.declared.number.FieldError.{FieldError}
 use Rattle.lines.specs.declared.verb.Verb.{Verb}
-use Rattle.lines.specs.declared.verb.Verb.TheVariants.{Insert, Edit, Get, Remove, Trim, Reserve, Limit, Clear}
+use Rattle.lines.specs.declared.verb.Verb.TheVariants.{Insert, Edit, Get, Remove, Trim, Reserve, Limit, Clear, Compress}
 
 -- a call wants a pointer, that is a slot and a generation
 abbrev pub wants_pointer : Verb → Bool
@@ -16,6 +16,7 @@ wants_pointer Trim = false
 wants_pointer Reserve = false
 wants_pointer Limit = false
 wants_pointer Clear = false
+wants_pointer Compress = false
 
 abbrev pub wants_value : Verb → Bool
 wants_value Insert = true
@@ -26,6 +27,7 @@ wants_value Trim = true
 wants_value Reserve = true
 wants_value Limit = true
 wants_value Clear = false
+wants_value Compress = false
 
 -- what a field holds: a number, a blank, or neither
 abbrev pub Field : Type 0
@@ -55,6 +57,7 @@ call_at Trim s g v = call.Trim v
 call_at Reserve s g v = call.Reserve v
 call_at Limit s g v = call.Limit v
 call_at Clear s g v = call.Clear
+call_at Compress s g v = call.Compress
 
 abbrev pub asked : Verb → Field → Field → Field → Option Call
 asked verb s g v =

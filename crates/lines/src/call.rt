@@ -35,6 +35,7 @@ pub enum Call {
         limit: u32,
     },
     Clear,
+    Compress,
 }
 
 /// None where a wanted field is blank, or any other holds a number.
@@ -65,6 +66,7 @@ pub fn call_of(
         (Verb::Reserve, None, None, Some(request)) => Some(Call::Reserve { request }),
         (Verb::Limit, None, None, Some(limit)) => Some(Call::Limit { limit }),
         (Verb::Clear, None, None, None) => Some(Call::Clear),
+        (Verb::Compress, None, None, None) => Some(Call::Compress),
         _ => None,
     }
 }

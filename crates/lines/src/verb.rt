@@ -17,6 +17,7 @@ pub enum Verb {
     Reserve,
     Limit,
     Clear,
+    Compress,
 }
 
 /// `Unknown` for a name that no call has.
@@ -35,6 +36,7 @@ impl TryFrom<&[u8]> for Verb {
             b"reserve" => Ok(Verb::Reserve),
             b"limit" => Ok(Verb::Limit),
             b"clear" => Ok(Verb::Clear),
+            b"compress" => Ok(Verb::Compress),
             _ => Err(LineError::Unknown),
         }
     }

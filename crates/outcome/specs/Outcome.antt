@@ -7,6 +7,8 @@ use Rattle.outcome.specs.declared.errors.ReallocationError.{ReallocationError}
 use Rattle.outcome.specs.declared.errors.ReallocationError.TheVariants as realloc
 use Rattle.outcome.specs.declared.errors.DirectInsertionError.{DirectInsertionError}
 use Rattle.outcome.specs.declared.errors.DirectInsertionError.TheVariants as insertion
+use Rattle.outcome.specs.declared.errors.GetDisjointMutError.{GetDisjointMutError}
+use Rattle.outcome.specs.declared.errors.GetDisjointMutError.TheVariants as disjoint
 use Rattle.invalidation.specs.declared.answer.InvalidationOption.{InvalidationOption}
 use Rattle.invalidation.specs.declared.answer.InvalidationOption.TheVariants as option
 use Rattle.invalidation.specs.declared.answer.InvalidationResult.{InvalidationResult}
@@ -52,3 +54,9 @@ of_reallocation (Err realloc.AllocError) = refused 7
 abbrev pub of_limit : Result (Unit {0}) MaxCapacityReductionError → Outcome (Unit {0})
 of_limit (Ok u) = done u
 of_limit (Err e) = refused 8
+
+-- a record that is not there 4, one twice 5
+abbrev pub of_disjoint : Result (Unit {0}) GetDisjointMutError → Outcome (Unit {0})
+of_disjoint (Ok u) = done u
+of_disjoint (Err disjoint.IndexOutOfBounds) = refused 4
+of_disjoint (Err disjoint.OverlappingIndices) = refused 5

@@ -4,6 +4,8 @@ use Rattle.outcome.specs.declared.errors.ReallocationError.{ReallocationError}
 use Rattle.outcome.specs.declared.errors.ReallocationError.TheVariants as realloc
 use Rattle.outcome.specs.declared.errors.DirectInsertionError.{DirectInsertionError}
 use Rattle.outcome.specs.declared.errors.DirectInsertionError.TheVariants as insertion
+use Rattle.outcome.specs.declared.errors.GetDisjointMutError.{GetDisjointMutError}
+use Rattle.outcome.specs.declared.errors.GetDisjointMutError.TheVariants as disjoint
 
 abbrev pub within_text : List ℕ
 within_text = codes "an operation would not be within existing capacity"
@@ -18,3 +20,7 @@ insertion_text insertion.ExistingElementAtIndex = codes "a direct insertion inde
 
 abbrev pub reduction_text : List ℕ
 reduction_text = codes "the max capacity limit could not be reduced, because the capacity would also need to be reduced to equal it, and the capacity could not be reduced in this case"
+
+abbrev pub disjoint_text : GetDisjointMutError → List ℕ
+disjoint_text disjoint.IndexOutOfBounds = codes "an index is out of bounds"
+disjoint_text disjoint.OverlappingIndices = codes "there were overlapping indices"

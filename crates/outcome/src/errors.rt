@@ -1,5 +1,5 @@
 ghost use Rattle.std.specs.Prelude.{Some};
-ghost use Rattle.outcome.specs.Texts.{within_text, reallocation_text, insertion_text, reduction_text};
+ghost use Rattle.outcome.specs.Texts.{within_text, reallocation_text, insertion_text, reduction_text, disjoint_text};
 
 use std::error::Error;
 use std::fmt;
@@ -25,6 +25,13 @@ pub enum DirectInsertionError {
 /// A limit below the slots that are there: refusal 8.
 #[derive(Clone, Copy, Debug, PartialEq, Eq)]
 pub struct MaxCapacityReductionError;
+
+/// A list edit of a record that is not there, refusal 4, or of a record twice, refusal 5.
+#[derive(Clone, Copy, Debug, PartialEq, Eq)]
+pub enum GetDisjointMutError {
+    IndexOutOfBounds,
+    OverlappingIndices,
+}
 
 impl fmt::Display for NotWithinCapacityError {
     ghost output = { λ _. Some within_text };
@@ -72,6 +79,17 @@ impl fmt::Display for MaxCapacityReductionError {
     }
 }
 
+impl fmt::Display for GetDisjointMutError {
+    ghost output = { λ e. Some (disjoint_text e) };
+
+    fn fmt<W: fmt::Write>(&self, f: &mut fmt::Formatter<W>) -> fmt::Result {
+        f.write_str(match self {
+            GetDisjointMutError::IndexOutOfBounds => "an index is out of bounds",
+            GetDisjointMutError::OverlappingIndices => "there were overlapping indices",
+        })
+    }
+}
+
 impl Error for NotWithinCapacityError {}
 
 impl Error for ReallocationError {}
@@ -79,3 +97,5 @@ impl Error for ReallocationError {}
 impl Error for DirectInsertionError {}
 
 impl Error for MaxCapacityReductionError {}
+
+impl Error for GetDisjointMutError {}

@@ -7,5 +7,6 @@
 pub mod errors;
 
 pub use errors::{
-    DirectInsertionError, MaxCapacityReductionError, NotWithinCapacityError, ReallocationError,
+    DirectInsertionError, GetDisjointMutError, MaxCapacityReductionError, NotWithinCapacityError,
+    ReallocationError,
 };

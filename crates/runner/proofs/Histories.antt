@@ -7,6 +7,7 @@ use Rattle.slots.specs.Inserted.{insert_answer}
 use Rattle.slots.specs.Records.{match_in, found}
 use Rattle.history.specs.Calls as history
 use Rattle.history.specs.Calls.{Entry, went, asks, Leads, next, pointer}
+use Rattle.history.specs.Mapped.{kept}
 use Rattle.history.specs.Slots.{Slots, Ptr, Held, at, is_free, has_gen}
 use Rattle.kinds.specs.Kinds.{season_alike}
 use Rattle.outcome.specs.Outcome.{Outcome, done, refused}
@@ -15,7 +16,7 @@ use Rattle.kinds.specs.declared.slot.DirectSlot.{DirectSlot}
 use Rattle.kinds.specs.declared.slot.DirectSlot.TheVariants.{Free, Allocated}
 use Rattle.lines.specs.Meaning.{meaning}
 use Rattle.lines.specs.declared.call.Call.{Call}
-use Rattle.lines.specs.declared.call.Call.TheVariants.{Insert, Edit, Get, Remove, Trim, Reserve, Limit, Clear}
+use Rattle.lines.specs.declared.call.Call.TheVariants.{Insert, Edit, Get, Remove, Trim, Reserve, Limit, Clear, Compress}
 use Rattle.lines.specs.declared.error.LineError.{LineError}
 use Rattle.passages.specs.State.{State, capacity_of, cite}
 use Rattle.steps.specs.Model.{shown, outcome, recorded, slots_by, entries, after_line, adds}
@@ -53,6 +54,7 @@ call_asked st (Trim n) h e w = let p : history.trim n ≡ h = cc in subst (λ x.
 call_asked st (Reserve n) h e w = let p : history.reallocate n ≡ h = cc in subst (λ x. asks season_alike x st.slots ≡ true) p refl
 call_asked st (Limit n) h e w = let p : history.limit n ≡ h = cc in subst (λ x. asks season_alike x st.slots ≡ true) p refl
 call_asked st Clear h e w = let p : history.clear ≡ h = cc in subst (λ x. asks season_alike x st.slots ≡ true) p refl
+call_asked st Compress h e w = let p : history.compress kept ≡ h = cc in subst (λ x. asks season_alike x st.slots ≡ true) p refl
 
 call_leads : (st : State) (c : Call) (past : List (Entry SeasonGen ℕ)) → Leads season_alike past st.slots → (r : Option (history.Call SeasonGen ℕ)) → recorded c ≡ r → Leads season_alike (entries r (outcome st c) ++ past) (slots_by r (outcome st c) st.slots)
 call_leads st c past l None e = l

@@ -1,12 +1,11 @@
--- The first and the last record, from what each slot is.
-use Rattle.std.proofs.Common.{◌≡◌, ℕ, zero, suc, ◌+◌, ◌-◌, ◌<◌, ◌≤◌, not, eqb, [], ◌∷◌, List, length, is_some, Some, None, Option, MatchOption, refl, arith}
-use Rattle.std.proofs.lemmas.Option.{gets}
+-- The first and the last of the records that a search looks for, from what each slot is.
+use Rattle.std.proofs.Common.{◌≡◌, ℕ, zero, suc, ◌+◌, ◌-◌, ◌<◌, ◌≤◌, Bool, true, not, eqb, nat_le, filter, [], ◌∷◌, List, length, is_some, Some, None, Option, MatchOption, refl, arith}
 use Rattle.std.specs.List.{slice_get}
 use Rattle.std.specs.Option.{IfSome}
 use Rattle.kinds.specs.declared.slot.DirectSlot.TheVariants.{Free, Allocated}
-use Rattle.history.specs.Slots.{Slots, Held, or_free, count, held}
-use Rattle.slots.specs.Records.{record_in, named, first_of, last_of}
-use Rattle.slots.specs.Found.{held_in, Within}
+use Rattle.history.specs.Slots.{Slots, Held, or_free, at, count, held}
+use Rattle.slots.specs.Records.{record_in, named, first_of, last_of, first_from}
+use Rattle.slots.specs.Found.{held_in}
 use Rattle.slots.specs.declared.find.Found.{Found}
 
 module _ {G V : Type 0} where
@@ -14,61 +13,92 @@ module _ {G V : Type 0} where
   abbrev nth : Slots G V → ℕ → ℕ → Option (Held G V)
   nth s i m = record_in m (or_free (slice_get s i))
 
-  none_from : (k : ℕ) (s : Slots G V) → ((i m : ℕ) → m ≡ k + i → i < length s → None ≡ nth s i m) → (held k s ≡ []) × (count s ≡ 0)
-  none_from k [] free = (refl, refl)
-  none_from k (Free ∷ s) free = none_from (suc k) s (λ i m e l. free (suc i) m (omega arith) (omega arith))
-  none_from k (Allocated g v ∷ s) free = cc (free 0 k (omega arith) (omega arith))
-
-  first_from : (k : ℕ) (s : Slots G V) (n p : ℕ) (h : Held G V) → p ≡ k + n → Some h ≡ nth s n p → ((i m : ℕ) → m ≡ k + i → i < length s → i < n → None ≡ nth s i m) → Some h ≡ first_of (held k s)
-  first_from k [] n p h q e free = cc
-  first_from k (x ∷ s) zero p h q e free = grind arith
-  first_from k (Free ∷ s) (suc n) p h q e free = first_from (suc k) s n p h (omega arith) e (λ i m r l b. free (suc i) m (omega arith) (omega arith) (omega arith))
-  first_from k (Allocated g v ∷ s) (suc n) p h q e free = cc (free 0 k (omega arith) (omega arith) (omega arith))
-
   last_cons : (a h : Held G V) (hs : List (Held G V)) → Some h ≡ last_of hs → Some h ≡ last_of (a ∷ hs)
   last_cons a h [] e = cc
   last_cons a h (b ∷ hs) e = e
 
-  last_from : (k : ℕ) (s : Slots G V) (n p : ℕ) (h : Held G V) → p ≡ k + n → Some h ≡ nth s n p → ((i m : ℕ) → m ≡ k + i → i < length s → n < i → None ≡ nth s i m) → Some h ≡ last_of (held k s)
-  last_from k [] n p h q e free = cc
-  last_from k (x ∷ s) zero p h q e free = grind (arith, none_from (suc k) s (λ i m r l. free (suc i) m (omega arith) (omega arith) (omega arith)))
-  last_from k (Free ∷ s) (suc n) p h q e free = last_from (suc k) s n p h (omega arith) e (λ i m r l b. free (suc i) m (omega arith) (omega arith) (omega arith))
-  last_from k (Allocated g v ∷ s) (suc n) p h q e free = last_cons _ h (held (suc k) s) (last_from (suc k) s n p h (omega arith) e (λ i m r l b. free (suc i) m (omega arith) (omega arith) (omega arith)))
+  module _ (wanted : ℕ → Bool) where
+    abbrev chosen : ℕ → Slots G V → List (Held G V)
+    chosen k s = filter (λ h. wanted h.slot) (held k s)
 
-  first_named : (s : Slots G V) (n : ℕ) (h : Held G V) → Some h ≡ named n s → ((k : ℕ) → 1 ≤ k → k ≤ length s → k < n → None ≡ named k s) → Some h ≡ first_of (held 1 s)
-  first_named s zero h e free = cc
-  first_named s (suc n) h e free = first_from 1 s n (suc n) h (omega arith) (grind arith) (λ i m q l b. grind (arith, free m))
+    none_chosen : (k : ℕ) (s : Slots G V) → ((i m : ℕ) → m ≡ k + i → i < length s → wanted m ≡ true → None ≡ nth s i m) → chosen k s ≡ []
+    none_chosen k [] free = refl
+    none_chosen k (Free ∷ s) free = none_chosen (suc k) s (λ i m e l w. free (suc i) m (omega arith) (omega arith) w)
+    none_chosen k (Allocated g v ∷ s) free = grind (arith, free 0 k, none_chosen (suc k) s (λ i m e l w. free (suc i) m (omega arith) (omega arith) w))
 
-  last_named : (s : Slots G V) (n : ℕ) (h : Held G V) → Some h ≡ named n s → ((k : ℕ) → 1 ≤ k → k ≤ length s → n < k → None ≡ named k s) → Some h ≡ last_of (held 1 s)
-  last_named s zero h e free = cc
-  last_named s (suc n) h e free = last_from 1 s n (suc n) h (omega arith) (grind arith) (λ i m q l b. grind (arith, free m))
+    first_chosen : (k : ℕ) (s : Slots G V) (n p : ℕ) (h : Held G V) → p ≡ k + n → wanted p ≡ true → Some h ≡ nth s n p → ((i m : ℕ) → m ≡ k + i → i < length s → i < n → wanted m ≡ true → None ≡ nth s i m) → Some h ≡ first_of (chosen k s)
+    first_chosen k [] n p h q y e free = cc
+    first_chosen k (x ∷ s) zero p h q y e free = grind arith
+    first_chosen k (Free ∷ s) (suc n) p h q y e free = first_chosen (suc k) s n p h (omega arith) y e (λ i m r l b w. free (suc i) m (omega arith) (omega arith) (omega arith) w)
+    first_chosen k (Allocated g v ∷ s) (suc n) p h q y e free = grind (arith, free 0 k, first_chosen (suc k) s n p h (omega arith) y e (λ i m r l b w. free (suc i) m (omega arith) (omega arith) (omega arith) w))
 
-  one_counted : (s : Slots G V) (i : ℕ) (g : G) (v : V) → or_free (slice_get s i) ≡ Allocated g v → 1 ≤ count s
-  one_counted [] i g v e = cc
-  one_counted (x ∷ s) zero g v e = grind arith
-  one_counted (x ∷ s) (suc i) g v e = grind (arith, one_counted s i g v e)
+    last_chosen : (k : ℕ) (s : Slots G V) (n p : ℕ) (h : Held G V) → p ≡ k + n → wanted p ≡ true → Some h ≡ nth s n p → ((i m : ℕ) → m ≡ k + i → i < length s → n < i → wanted m ≡ true → None ≡ nth s i m) → Some h ≡ last_of (chosen k s)
+    last_chosen k [] n p h q y e free = cc
+    last_chosen k (x ∷ s) zero p h q y e free = grind (arith, none_chosen (suc k) s (λ i m r l w. free (suc i) m (omega arith) (omega arith) (omega arith) w))
+    last_chosen k (Free ∷ s) (suc n) p h q y e free = last_chosen (suc k) s n p h (omega arith) y e (λ i m r l b w. free (suc i) m (omega arith) (omega arith) (omega arith) w)
+    last_chosen k (Allocated g v ∷ s) (suc n) p h q y e free = grind (arith, last_cons, last_chosen (suc k) s n p h (omega arith) y e (λ i m r l b w. free (suc i) m (omega arith) (omega arith) (omega arith) w))
 
-  -- what a search answered: a record that stands in its slot, and none in the slots that it passed before
-  pub record Search (s : Slots G V) (Passed : ℕ → ℕ → Type 0) (r : Option (Found G V)) : Type 0 where
-    pub own : IfSome r (λ f. held_in (Some f) ≡ named f.slot s)
-    pub free : (k : ℕ) → 1 ≤ k → k ≤ length s → MatchOption r (None ≡ named k s) (λ f. Passed k f.slot → None ≡ named k s)
+    -- what a search answered: a record that stands in its slot and is wanted, and no wanted one in the slots that it
+    -- passed before
+    pub record Search (s : Slots G V) (Passed : ℕ → ℕ → Type 0) (r : Option (Found G V)) : Type 0 where
+      pub own : IfSome r (λ f. held_in (Some f) ≡ named f.slot s)
+      pub meant : IfSome r (λ f. wanted f.slot ≡ true)
+      pub free : (k : ℕ) → 1 ≤ k → k ≤ length s → wanted k ≡ true → MatchOption r (None ≡ named k s) (λ f. Passed k f.slot → None ≡ named k s)
 
-  none_held : (s : Slots G V) (Passed : ℕ → ℕ → Type 0) → Search s Passed None → (held 1 s ≡ []) × (count s ≡ 0)
-  none_held s Passed x = none_from 1 s (λ i m q l. grind (arith, x.free m))
+    first_named : (s : Slots G V) (n : ℕ) (h : Held G V) → Some h ≡ named n s → wanted n ≡ true → ((k : ℕ) → 1 ≤ k → k ≤ length s → wanted k ≡ true → k < n → None ≡ named k s) → Some h ≡ first_of (chosen 1 s)
+    first_named s zero h e y free = cc
+    first_named s (suc n) h e y free = first_chosen 1 s n (suc n) h (omega arith) y (grind arith) (λ i m q l b w. grind (arith, free m))
 
-  pub first_found : (s : Slots G V) (r : Option (Found G V)) → Search s (λ k n. k < n) r → held_in r ≡ first_of (held 1 s)
-  first_found s None x = grind (arith, none_held s _ x)
-  first_found s (Some f) x = first_named s f.slot _ x.own x.free
+    last_named : (s : Slots G V) (n : ℕ) (h : Held G V) → Some h ≡ named n s → wanted n ≡ true → ((k : ℕ) → 1 ≤ k → k ≤ length s → wanted k ≡ true → n < k → None ≡ named k s) → Some h ≡ last_of (chosen 1 s)
+    last_named s zero h e y free = cc
+    last_named s (suc n) h e y free = last_chosen 1 s n (suc n) h (omega arith) y (grind arith) (λ i m q l b w. grind (arith, free m))
 
-  pub last_found : (s : Slots G V) (r : Option (Found G V)) → Search s (λ k n. n < k) r → held_in r ≡ last_of (held 1 s)
-  last_found s None x = grind (arith, none_held s _ x)
-  last_found s (Some f) x = last_named s f.slot _ x.own x.free
+    none_found : (s : Slots G V) (Passed : ℕ → ℕ → Type 0) → Search s Passed None → chosen 1 s ≡ []
+    none_found s Passed x = none_chosen 1 s (λ i m q l w. grind (arith, x.free m))
 
-  pub within : (s : Slots G V) (Passed : ℕ → ℕ → Type 0) (r : Option (Found G V)) → Search s Passed r → Within r (length s)
-  within s Passed None x = tt
-  within s Passed (Some f) x = grind (arith, gets, x.own)
+    pub first_found : (s : Slots G V) (r : Option (Found G V)) → Search s (λ k n. k < n) r → held_in r ≡ first_of (chosen 1 s)
+    first_found s None x = grind (arith, none_found s _ x)
+    first_found s (Some f) x = first_named s f.slot _ x.own x.meant x.free
+
+    pub last_found : (s : Slots G V) (r : Option (Found G V)) → Search s (λ k n. n < k) r → held_in r ≡ last_of (chosen 1 s)
+    last_found s None x = grind (arith, none_found s _ x)
+    last_found s (Some f) x = last_named s f.slot _ x.own x.meant x.free
+
+  -- every record is in a slot from 1 up to the last
+  pub all_from : (n k : ℕ) (s : Slots G V) → n ≤ k → filter (λ h. nat_le n h.slot) (held k s) ≡ held k s
+  all_from n k [] l = refl
+  all_from n k (Free ∷ s) l = all_from n (suc k) s (omega arith)
+  all_from n k (Allocated g v ∷ s) l = grind (arith, all_from n (suc k) s)
+
+  pub all_to : (n k : ℕ) (s : Slots G V) → k + length s ≤ n + 1 → filter (λ h. nat_le h.slot n) (held k s) ≡ held k s
+  all_to n k [] l = refl
+  all_to n k (Free ∷ s) l = all_to n (suc k) s (omega arith)
+  all_to n k (Allocated g v ∷ s) l = grind (arith, all_to n (suc k) s)
+
+  any_held : (k : ℕ) (s : Slots G V) → is_some (first_of (held k s)) ≡ not (eqb (count s) 0)
+  any_held k [] = refl
+  any_held k (Free ∷ s) = any_held (suc k) s
+  any_held k (Allocated g v ∷ s) = grind arith
+
+  last_is : (hs : List (Held G V)) → is_some (last_of hs) ≡ is_some (first_of hs)
+  last_is [] = refl
+  last_is (h ∷ []) = refl
+  last_is (h ∷ i ∷ hs) = last_is (i ∷ hs)
 
   -- there is one exactly if the count is not 0
-  pub absent : (s : Slots G V) (Passed : ℕ → ℕ → Type 0) (r : Option (Found G V)) → Search s Passed r → is_some r ≡ not (eqb (count s) 0)
-  absent s Passed None x = grind (arith, none_held s Passed x)
-  absent s Passed (Some f) x = grind (arith, gets, x.own, one_counted s (f.slot - 1))
+  pub first_counted : (s : Slots G V) (r : Option (Found G V)) → held_in r ≡ first_of (held 1 s) → is_some r ≡ not (eqb (count s) 0)
+  first_counted s None e = grind (arith, any_held 1 s)
+  first_counted s (Some f) e = grind (arith, any_held 1 s)
+
+  pub last_counted : (s : Slots G V) (r : Option (Found G V)) → held_in r ≡ last_of (held 1 s) → is_some r ≡ not (eqb (count s) 0)
+  last_counted s None e = grind (arith, any_held 1 s, last_is (held 1 s))
+  last_counted s (Some f) e = grind (arith, any_held 1 s, last_is (held 1 s))
+
+  first_in : (n k : ℕ) (s : Slots G V) (h : Held G V) → Some h ≡ first_from n (held k s) → (k ≤ h.slot) × (or_free (slice_get s (h.slot - k)) ≡ Allocated h.gen h.value)
+  first_in n k [] h e = cc
+  first_in n k (Free ∷ s) h e = grind (arith, first_in n (suc k) s h e)
+  first_in n k (Allocated g v ∷ s) h e = grind (arith, first_in n (suc k) s h)
+
+  -- a record that is found stands in its slot
+  pub first_stands : (n : ℕ) (s : Slots G V) (h : Held G V) → Some h ≡ first_from n (held 1 s) → at h.slot s ≡ Allocated h.gen h.value
+  first_stands n s h e = grind (arith, first_in n 1 s h e)

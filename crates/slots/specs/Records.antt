@@ -1,5 +1,5 @@
 -- Which record of the slots is meant.
-use Rattle.std.specs.Prelude.{ℕ, ◌-◌, Bool, true, false, cond, List, [], ◌∷◌, ◌++◌, length, replicate, Some, None, Option}
+use Rattle.std.specs.Prelude.{ℕ, ◌-◌, Bool, true, false, cond, List, [], ◌∷◌, ◌++◌, length, filter, replicate, Some, None, Option, nat_le}
 use Rattle.kinds.specs.Places.{slot_at}
 use Rattle.kinds.specs.declared.slot.DirectSlot.{DirectSlot}
 use Rattle.kinds.specs.declared.slot.DirectSlot.TheVariants.{Free, Allocated}
@@ -32,6 +32,14 @@ abbrev pub last_of : {G V : Type 0} → List (Held G V) → Option (Held G V)
 last_of [] = None
 last_of (h ∷ []) = Some h
 last_of (h ∷ k ∷ hs) = last_of (k ∷ hs)
+
+-- the first of the records whose slot is at least n
+abbrev pub first_from : {G V : Type 0} → ℕ → List (Held G V) → Option (Held G V)
+first_from n hs = first_of (filter (λ h. nat_le n h.slot) hs)
+
+-- the last of the records whose slot is at most n
+abbrev pub last_to : {G V : Type 0} → ℕ → List (Held G V) → Option (Held G V)
+last_to n hs = last_of (filter (λ h. nat_le h.slot n) hs)
 
 -- how many records a slot holds
 abbrev pub taken : {G V : Type 0} → DirectSlot G V → ℕ

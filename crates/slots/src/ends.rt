@@ -1,6 +1,6 @@
 ghost use Rattle.std.specs.Prelude.{◌≡◌, ◌-◌, ◌≤◌, not, length, is_some, ◌==◌};
 ghost use Rattle.history.specs.Slots.{count, held, trimmed};
-ghost use Rattle.slots.specs.Records.{first_of, last_of, ends_free};
+ghost use Rattle.slots.specs.Records.{first_of, last_of, first_from, last_to, ends_free};
 ghost use Rattle.slots.specs.Found.{held_in, Within};
 
 use crate::find::{Found, record_at};
@@ -10,7 +10,30 @@ use stack::NonZeroInxGenericStack;
 // The two searches are one chain each, which differ in `rev`; one function for both would take the range from its
 // caller, and could not say which record it finds.
 
+/// The record in the lowest slot from `n` on; none where no record stands there.
+pub fn record_at_or_above<G: Copy, V: Copy, S: NonZeroInxGenericStack<Slot = DirectSlot<G, V>>>(
+    m: &S,
+    n: usize,
+) -> Option<Found<G, V>>
+    ensures first { held_in result ≡ first_from n (held 1 (S.list m.now)) }
+    ensures within { Within result (length (S.list m.now)) }
+{
+    (n.max(1)..=m.len()).find_map(|k| record_at(m, k))
+}
+
+/// The record in the highest slot up to `n`; none where no record stands there.
+pub fn record_at_or_below<G: Copy, V: Copy, S: NonZeroInxGenericStack<Slot = DirectSlot<G, V>>>(
+    m: &S,
+    n: usize,
+) -> Option<Found<G, V>>
+    ensures last { held_in result ≡ last_to n (held 1 (S.list m.now)) }
+    ensures within { Within result (length (S.list m.now)) }
+{
+    (1..=n.min(m.len())).rev().find_map(|k| record_at(m, k))
+}
+
 /// The record in the lowest slot; none where no record stands.
+#[tactic(auto, using(crate::proofs::Searches::all_from, crate::proofs::Searches::first_counted))]
 pub fn first_record<G: Copy, V: Copy, S: NonZeroInxGenericStack<Slot = DirectSlot<G, V>>>(
     m: &S,
 ) -> Option<Found<G, V>>
@@ -18,10 +41,11 @@ pub fn first_record<G: Copy, V: Copy, S: NonZeroInxGenericStack<Slot = DirectSlo
     ensures absent { is_some result ≡ not (count (S.list m.now) == 0) }
     ensures within { Within result (length (S.list m.now)) }
 {
-    (1..=m.len()).find_map(|n| record_at(m, n))
+    record_at_or_above(m, 1)
 }
 
 /// The record in the highest slot; none where no record stands.
+#[tactic(auto, using(crate::proofs::Searches::all_to, crate::proofs::Searches::last_counted))]
 pub fn last_record<G: Copy, V: Copy, S: NonZeroInxGenericStack<Slot = DirectSlot<G, V>>>(
     m: &S,
 ) -> Option<Found<G, V>>
@@ -29,7 +53,7 @@ pub fn last_record<G: Copy, V: Copy, S: NonZeroInxGenericStack<Slot = DirectSlot
     ensures absent { is_some result ≡ not (count (S.list m.now) == 0) }
     ensures within { Within result (length (S.list m.now)) }
 {
-    (1..=m.len()).rev().find_map(|n| record_at(m, n))
+    record_at_or_below(m, m.len())
 }
 
 // Whether there is a last slot and it is free.

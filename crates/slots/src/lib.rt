@@ -8,6 +8,6 @@ pub mod ends;
 pub mod find;
 pub mod write;
 
-pub use ends::{first_record, last_record, pop_free};
+pub use ends::{first_record, last_record, pop_free, record_at_or_above, record_at_or_below};
 pub use find::{Found, find_record, is_vacant, record_at};
 pub use write::{insert_record, overwrite, place_record};

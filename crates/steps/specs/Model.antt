@@ -8,13 +8,14 @@ use Rattle.slots.specs.Inserted.{insert_answer}
 use Rattle.slots.specs.Records.{found}
 use Rattle.history.specs.Calls as history
 use Rattle.history.specs.Calls.{Entry, entry, after, pointer}
-use Rattle.history.specs.Slots.{Slots, trimmed}
+use Rattle.history.specs.Mapped.{kept}
+use Rattle.history.specs.Slots.{Slots, count, trimmed}
 use Rattle.kinds.specs.Kinds.{season_alike}
 use Rattle.outcome.specs.Outcome.{Outcome, done, overflowed, refused}
 use Rattle.kinds.specs.declared.generation.SeasonGen.{SeasonGen}
 use Rattle.lines.specs.Meaning.{line_number}
 use Rattle.lines.specs.declared.call.Call.{Call}
-use Rattle.lines.specs.declared.call.Call.TheVariants.{Insert, Edit, Get, Remove, Trim, Reserve, Limit, Clear}
+use Rattle.lines.specs.declared.call.Call.TheVariants.{Insert, Edit, Get, Remove, Trim, Reserve, Limit, Clear, Compress}
 use Rattle.lines.specs.declared.error.LineError.{LineError}
 use Rattle.stack.specs.Limits.{limit_answer}
 use Rattle.slab_stack.specs.Slab.{slab_answer, slab_room}
@@ -58,6 +59,7 @@ outcome st (Trim n) = done (Value (length st.slots - length (trimmed n st.slots)
 outcome st (Reserve n) = shown (λ _. Value n) (reserve_outcome st n)
 outcome st (Limit n) = shown (λ _. Value n) (limit_answer (length (cut_to n st.slots)) n)
 outcome st Clear = done Nothing
+outcome st Compress = done (Value (count st.slots))
 
 -- the call in the history of the register's arena; a get is none, since it alters nothing
 abbrev pub recorded : Call → Option (history.Call SeasonGen ℕ)
@@ -69,6 +71,7 @@ recorded (Trim n) = Some (history.trim n)
 recorded (Reserve n) = Some (history.reallocate n)
 recorded (Limit n) = Some (history.limit n)
 recorded Clear = Some history.clear
+recorded Compress = Some (history.compress kept)
 
 abbrev pub entries : Option (history.Call SeasonGen ℕ) → Outcome Concerned → List (Entry SeasonGen ℕ)
 entries None o = []
@@ -87,6 +90,7 @@ room_after st (Trim n) = st.room
 room_after st (Reserve n) = reserve_room st n
 room_after st (Limit n) = st.room
 room_after st Clear = st.room
+room_after st Compress = st.room
 
 abbrev pub limit_after : State → Call → ℕ
 limit_after st (Insert s g v) = st.limit
@@ -97,6 +101,7 @@ limit_after st (Trim n) = st.limit
 limit_after st (Reserve n) = st.limit
 limit_after st (Limit n) = cond (nat_le (length (cut_to n st.slots)) n) n st.limit
 limit_after st Clear = st.limit
+limit_after st Compress = st.limit
 
 abbrev pub state_after : State → Call → State
 state_after st c = record { slots = slots_by (recorded c) (outcome st c) st.slots; room = room_after st c; lent = st.lent; limit = limit_after st c }

@@ -2,12 +2,13 @@
 // Slot, generation and value are fields of a call and of an answer: a struct between would only be taken apart again.
 ghost use Rattle.std.specs.Prelude.{◌≡◌};
 ghost use Rattle.answers.specs.Refusals.{of_verdict};
-ghost use Rattle.lines.specs.declared.call.Call.TheVariants.{Insert, Edit, Get, Remove, Trim, Reserve, Limit, Clear};
+ghost use Rattle.lines.specs.declared.call.Call.TheVariants.{Insert, Edit, Get, Remove, Trim, Reserve, Limit, Clear, Compress};
 ghost use Rattle.passages.specs.State.{state_of};
 ghost use Rattle.steps.specs.Model.{outcome, state_after};
 
 use answers::answer::Concerned;
 use answers::refusal::Refusal;
+use mapper::KeepValues;
 use passages::register::{Register, pointer};
 
 pub(crate) fn insert(
@@ -109,4 +110,13 @@ pub(crate) fn clear(register: &mut Register<'_>) -> Result<Concerned, Refusal>
 {
     let _ = register.clear();
     Ok(Concerned::Nothing)
+}
+
+// The count fits: each record has a slot with an index of 16 bits.
+pub(crate) fn compress(register: &mut Register<'_>) -> Result<Concerned, Refusal>
+    ensures answer { of_verdict result ≡ outcome (state_of register.old) Compress }
+    ensures after { state_of register.new ≡ state_after (state_of register.old) Compress }
+{
+    let _ = register.compress_with(&mut KeepValues);
+    Ok(Concerned::Value(register.len() as u32))
 }

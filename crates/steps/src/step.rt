@@ -37,6 +37,7 @@ fn carry_out(
         Call::Reserve { request } => calls::reserve(register, request),
         Call::Limit { limit } => calls::limit(register, limit),
         Call::Clear => calls::clear(register),
+        Call::Compress => calls::compress(register),
     }
 }
 

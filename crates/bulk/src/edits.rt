@@ -1,0 +1,186 @@
+ghost use Rattle.std.specs.Prelude.{◌≡◌, ◌≤◌, ℕ, [], length, Option, true};
+ghost use Rattle.std.specs.List.{list_all};
+ghost use Rattle.kinds.specs.Places.{or_zero};
+ghost use Rattle.outcome.specs.Outcome.{of_disjoint};
+ghost use Rattle.history.specs.Slots.{at, count, is_held};
+ghost use Rattle.history.specs.Mapped.{records, in_place, those_named, put_all};
+ghost use Rattle.history.specs.Calls.{distinct};
+ghost use Rattle.bulk.specs.Given.{given, left};
+ghost use Rattle.bulk.specs.Edits.{numbers, first_unconverted, scanned, all_held, edits_answer, edited, shown};
+
+use crate::point::point;
+use kinds::{DirectSlot, Ptr, PtrInx};
+use mapper::Mapper;
+use outcome::GetDisjointMutError;
+use slots::{is_vacant, overwrite, record_at};
+use stack::NonZeroInxGenericStack;
+
+/// How the items of a list cite slots: by the number of each.
+pub trait Citing<T: Copy>: Copy {
+    ghost number: { T → Option ℕ };
+
+    fn number(self, item: T) -> Option<usize>
+        ensures { result ≡ number item };
+}
+
+/// Indices cite their own slots.
+#[derive(Clone, Copy)]
+pub struct ByIndex;
+
+impl<I: PtrInx> Citing<I> for ByIndex {
+    ghost number = { I.number };
+
+    fn number(self, item: I) -> Option<usize> {
+        item.try_into_usize()
+    }
+}
+
+/// Pointers cite the slots of their indices.
+#[derive(Clone, Copy)]
+pub struct ByPointer;
+
+impl<P: Ptr> Citing<P> for ByPointer {
+    ghost number = { λ p. P.Inx.number (P.index p) };
+
+    fn number(self, item: P) -> Option<usize> {
+        item.inx().try_into_usize()
+    }
+}
+
+// The number of an item's slot, or 0, which no slot has, where its index does not convert.
+fn slot_of<T: Copy, C: Citing<T>>(by: C, item: T) -> usize
+    ensures { result ≡ or_zero (C.number item) }
+{
+    by.number(item).unwrap_or(0)
+}
+
+// The place of the first item whose index does not convert.
+fn first_unconverted<T: Copy, C: Citing<T>>(by: C, items: &[T]) -> Option<usize>
+    ensures { result ≡ first_unconverted (numbers C.number items.now) }
+{
+    for (place, item) in items.iter().enumerate() {
+        if slot_of(by, *item) == 0 {
+            return Some(place);
+        }
+    }
+    None
+}
+
+// Of each item in order: is there such a slot, and does it differ from those before it?
+fn scan<T: Copy, C: Citing<T>>(by: C, items: &[T], slots: usize) -> Result<(), GetDisjointMutError>
+    ensures { of_disjoint result ≡ scanned slots [] (numbers C.number items.now) }
+{
+    let mut answer = Ok(());
+    'scan: for (place, item) in items.iter().enumerate() {
+        let n = slot_of(by, *item);
+        if n > slots {
+            answer = Err(GetDisjointMutError::IndexOutOfBounds);
+            break 'scan;
+        }
+        for earlier in &items[..place] {
+            if slot_of(by, *earlier) == n {
+                answer = Err(GetDisjointMutError::OverlappingIndices);
+                break 'scan;
+            }
+        }
+    }
+    answer
+}
+
+// Whether an item cites an allocated slot.
+fn is_taken<
+    G: Copy,
+    V: Copy,
+    S: NonZeroInxGenericStack<Slot = DirectSlot<G, V>>,
+    T: Copy,
+    C: Citing<T>,
+>(m: &S, by: C, item: T) -> bool
+    ensures { result ≡ is_held (at (or_zero (C.number item)) (S.list m.now)) }
+{
+    !is_vacant(m, slot_of(by, item))
+}
+
+// Whether each item does.
+fn all_taken<
+    G: Copy,
+    V: Copy,
+    S: NonZeroInxGenericStack<Slot = DirectSlot<G, V>>,
+    T: Copy,
+    C: Citing<T>,
+>(m: &S, by: C, items: &[T]) -> bool
+    ensures { result ≡ list_all (λ x. is_held (at (or_zero (C.number x)) (S.list m.now))) items.now }
+{
+    items.iter().all(|item| is_taken(m, by, *item))
+}
+
+// What a list edit asks before it edits anything.
+#[tactic(auto, using(crate::proofs::Cited::mapped_all))]
+fn ask<G: Copy, V: Copy, S: NonZeroInxGenericStack<Slot = DirectSlot<G, V>>, T: Copy, C: Citing<T>>(
+    m: &S,
+    by: C,
+    items: &[T],
+) -> Result<(), GetDisjointMutError>
+    ensures { of_disjoint result ≡ edits_answer (numbers C.number items.now) (S.list m.now) }
+{
+    if first_unconverted(by, items).is_some() {
+        return Err(GetDisjointMutError::IndexOutOfBounds);
+    }
+    scan(by, items, m.len())?;
+    if !all_taken(m, by, items) {
+        return Err(GetDisjointMutError::IndexOutOfBounds);
+    }
+    Ok(())
+}
+
+// Edits the record of each item, in order.
+fn edit_each<
+    P: Ptr,
+    V: Copy,
+    S: NonZeroInxGenericStack<Slot = DirectSlot<P::Gen, V>>,
+    F: Mapper<P, P, V, V>,
+    T: Copy,
+    C: Citing<T>,
+>(m: &mut S, by: C, items: &[T], mapper: &mut F)
+    requires indexed { length (S.list m.old) ≤ P.Inx.largest }
+    requires held { all_held (numbers C.number items.now) (S.list m.old) ≡ true }
+    requires apart { distinct (numbers C.number items.now) ≡ true }
+    ensures slots { S.list m.new ≡ put_all (numbers C.number items.now) (given F.next F.mapped P.Inx.indexed P.made (F.state mapper.old) (in_place (those_named (numbers C.number items.now) (records (S.list m.old))))) (S.list m.old) }
+    ensures mapper { F.state mapper.new ≡ left F.next F.mapped P.Inx.indexed P.made (F.state mapper.old) (in_place (those_named (numbers C.number items.now) (records (S.list m.old)))) }
+    ensures counted { count (S.list m.new) ≡ count (S.list m.old) }
+    ensures long { length (S.list m.new) ≡ length (S.list m.old) }
+    ensures kept { S.config m.new ≡ S.config m.old }
+{
+    for item in items {
+        let found = record_at(m, slot_of(by, *item)).unwrap();
+        let pointer = point(found.slot, found.generation);
+        let value = mapper.map(pointer, pointer, found.value);
+        overwrite(
+            m,
+            found.slot,
+            DirectSlot::Allocated(found.generation, value),
+        );
+    }
+}
+
+/// Edits the records that a list cites, each by the mapper, in list order; a refused edit shows the mapper nothing.
+#[tactic(auto, using(crate::proofs::Cited::accepted))]
+pub fn edit_all<
+    P: Ptr,
+    V: Copy,
+    S: NonZeroInxGenericStack<Slot = DirectSlot<P::Gen, V>>,
+    F: Mapper<P, P, V, V>,
+    T: Copy,
+    C: Citing<T>,
+>(m: &mut S, by: C, items: &[T], mapper: &mut F) -> Result<(), GetDisjointMutError>
+    requires { length (S.list m.old) ≤ P.Inx.largest }
+    ensures answer { of_disjoint result ≡ edits_answer (numbers C.number items.now) (S.list m.old) }
+    ensures slots { S.list m.new ≡ edited (of_disjoint result) (numbers C.number items.now) (given F.next F.mapped P.Inx.indexed P.made (F.state mapper.old)) (S.list m.old) }
+    ensures mapper { F.state mapper.new ≡ left F.next F.mapped P.Inx.indexed P.made (F.state mapper.old) (shown (of_disjoint result) (numbers C.number items.now) (S.list m.old)) }
+    ensures counted { count (S.list m.new) ≡ count (S.list m.old) }
+    ensures long { length (S.list m.new) ≡ length (S.list m.old) }
+    ensures kept { S.config m.new ≡ S.config m.old }
+{
+    ask(m, by, items)?;
+    edit_each(m, by, items, mapper);
+    Ok(())
+}
