@@ -2,7 +2,7 @@
 use Rattle.std.proofs.Common.{◌≡◌, ℕ, suc, ◌<◌, ◌≤◌, Bool, true, false, List, [], ◌∷◌, refl, inl, inr, arith}
 use Rattle.history.specs.Slots.{Slots, Ptr, Held, ptr}
 use Rattle.history.specs.Mapped.{moving, pairs, rising}
-use Rattle.history.specs.Calls.{Call, insert, edit, edit_all, remove, drain, clear, bring, hand_over, compress, trim, reallocate, limit, Entry}
+use Rattle.history.specs.Calls.{Call, compress, Entry}
 use Rattle.history.specs.Roll.{Line, standing}
 use Rattle.history.specs.Laws.{In, Becomes, Passes, Sends, Follows}
 use Rattle.history.proofs.Agree.{Agrees, none, free, full}
@@ -41,32 +41,12 @@ module _ {G V : Type 0} where
 
   -- what a call makes of a record is where it sends its pointer, under the same generation
   becomes_sent : (c : Call G V) (all : List (Held G V)) (old new : Held G V) → Becomes c all old new → Sends c all (ptr old) (ptr new) × (new.gen ≡ old.gen)
-  becomes_sent (insert p v) all old new b = grind arith
-  becomes_sent (edit name v) all old new b = grind arith
-  becomes_sent (edit_all names f) all old new b = grind arith
-  becomes_sent (remove name) all old new b = grind arith
-  becomes_sent (drain p) all old new b = grind arith
-  becomes_sent clear all old new b = grind arith
-  becomes_sent (bring hs) all old new b = absurd b
-  becomes_sent hand_over all old new b = grind arith
   becomes_sent (compress f) all old new b = (b.reported, b.gen)
-  becomes_sent (trim k) all old new b = grind arith
-  becomes_sent (reallocate n) all old new b = grind arith
-  becomes_sent (limit l) all old new b = grind arith
+  becomes_sent c all old new b = grind arith
 
   call_order : (c : Call G V) (all : List (Held G V)) (p q p' q' : Ptr G) → rising 0 all ≡ true → Sends c all p q → Sends c all p' q' → Kept p q p' q'
-  call_order (insert h v) all p q p' q' r e d = stay p q p' q' e d
-  call_order (edit name v) all p q p' q' r e d = stay p q p' q' e d
-  call_order (edit_all names f) all p q p' q' r e d = stay p q p' q' e d
-  call_order (remove name) all p q p' q' r e d = stay p q p' q' e d
-  call_order (drain h) all p q p' q' r e d = stay p q p' q' e d
-  call_order clear all p q p' q' r e d = stay p q p' q' e d
-  call_order (bring hs) all p q p' q' r e d = stay p q p' q' e d
-  call_order hand_over all p q p' q' r e d = stay p q p' q' e d
   call_order (compress f) all p q p' q' r e d = in_order 0 1 all p q p' q' r e d
-  call_order (trim k) all p q p' q' r e d = stay p q p' q' e d
-  call_order (reallocate n) all p q p' q' r e d = stay p q p' q' e d
-  call_order (limit l) all p q p' q' r e d = stay p q p' q' e d
+  call_order c all p q p' q' r e d = grind (arith, stay p q p' q')
 
   passes_call : (c : Call G V) (b : Bool) (all : List (Held G V)) (old new : Held G V) → Passes (record { call = c; accepted = b }) all old new →
       Follows (record { call = c; accepted = b }) all (ptr old) (ptr new) × (new.gen ≡ old.gen)

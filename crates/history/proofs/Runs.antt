@@ -4,7 +4,7 @@ use Rattle.std.proofs.lemmas.Option.{slice_get_within}
 use Rattle.std.specs.List.{slice_get}
 use Rattle.kinds.specs.declared.slot.DirectSlot.TheVariants.{Allocated}
 use Rattle.history.specs.Slots.{Slots, Held, ptr, or_free, at, count}
-use Rattle.history.specs.Calls.{Call, insert, edit, edit_all, remove, drain, clear, bring, hand_over, compress, trim, reallocate, limit, Entry, Leads, made, next}
+use Rattle.history.specs.Calls.{Call, Entry, Leads, made, next}
 use Rattle.history.specs.Roll.{Line, Roll, standing, rolled, roll}
 use Rattle.history.specs.Laws.{In, Stands, Arrived, Carries, Ordered, Brings, Follows, Lawful}
 use Rattle.history.proofs.Agree.{Agrees, none, free, full, line, records_of, step_agrees}
@@ -63,18 +63,7 @@ module _ {G V : Type 0} where
   stems_order e r s d m n x y = follows_order e (standing r.lines) (ptr x.line.stand) (ptr m.stand) (ptr y.line.stand) (ptr n.stand) (lines_rise d.agrees) (sent e r.lines m x).0 (sent e r.lines n y).0
 
   brings_one : (c : Call G V) (k : ℕ) (a b : Held G V) → Brings c k a → Brings c k b → a ≡ b
-  brings_one (insert p v) k a b x y = cc
-  brings_one (edit name v) k a b x y = absurd x
-  brings_one (edit_all names f) k a b x y = absurd x
-  brings_one (remove name) k a b x y = absurd x
-  brings_one (drain p) k a b x y = absurd x
-  brings_one clear k a b x y = absurd x
-  brings_one (bring hs) k a b x y = cc
-  brings_one hand_over k a b x y = absurd x
-  brings_one (compress f) k a b x y = absurd x
-  brings_one (trim n) k a b x y = absurd x
-  brings_one (reallocate n) k a b x y = absurd x
-  brings_one (limit l) k a b x y = absurd x
+  brings_one c k a b x y = grind arith
 
   new_old : (e : Entry G V) (r : Roll G V) (s : Slots G V) → Sound r s → (m n : Line G V) → New e r m → Stem e r.lines n → m.number ≡ n.number → ⊥
   new_old e r s d m n x y k = omega (arith, d.below y.line y.was, x.number, y.number)
@@ -98,18 +87,7 @@ module _ {G V : Type 0} where
 
   new_below : (c : Call G V) (b : Bool) (r : Roll G V) (k : ℕ) (a : Held G V) → b ≡ true → Brings c k a → r.next + k < (rolled (record { call = c; accepted = b }) r).next
   new_below c false r k a e x = cc
-  new_below (insert p v) true r k a e x = omega (arith, x.0)
-  new_below (edit name v) true r k a e x = absurd x
-  new_below (edit_all names f) true r k a e x = absurd x
-  new_below (remove name) true r k a e x = absurd x
-  new_below (drain p) true r k a e x = absurd x
-  new_below clear true r k a e x = absurd x
-  new_below (bring hs) true r k a e x = omega (arith, slice_get_within hs k a x)
-  new_below hand_over true r k a e x = absurd x
-  new_below (compress f) true r k a e x = absurd x
-  new_below (trim n) true r k a e x = absurd x
-  new_below (reallocate n) true r k a e x = absurd x
-  new_below (limit l) true r k a e x = absurd x
+  new_below c true r k a e x = grind (arith, slice_get_within)
 
   step_below : (e : Entry G V) (r : Roll G V) (s : Slots G V) → Sound r s → (m : Line G V) → In m (rolled e r).lines → m.number < (rolled e r).next
   step_below e r s d m i = go (stems e r m i)

@@ -39,7 +39,8 @@ pub record Moved {G V : Type 0} (given : List V) (all : List (Held G V)) (old ne
   pub gen : new.gen ≡ old.gen
   pub value : new.value ≡ or_kept old.value (slot_at given new.slot)
 
--- What a record that stands before an accepted call, and after it, is after it; `all` stand before it.
+-- What a record that stands before an accepted call, and after it, is after it; `all` stand before it. None stands
+-- both before and after a call that ends all.
 abbrev pub Becomes : {G V : Type 0} → Call G V → List (Held G V) → Held G V → Held G V → Type 0
 Becomes (insert p v) all old new = new ≡ old
 Becomes (edit name v) all old new = new ≡ cond (old.slot == slot_of name) (record { slot = old.slot; gen = old.gen; value = v }) old
@@ -47,9 +48,9 @@ Becomes (edit_all names f) all old new =
     new ≡ record { slot = old.slot; gen = old.gen; value = latest old.slot (slots_of names) (f (in_place (those_named (slots_of names) all))) old.value }
 Becomes (remove name) all old new = new ≡ old
 Becomes (drain p) all old new = new ≡ old
-Becomes clear all old new = new ≡ old
+Becomes clear all old new = ⊥
 Becomes (bring hs) all old new = ⊥
-Becomes hand_over all old new = new ≡ old
+Becomes hand_over all old new = ⊥
 Becomes (compress f) all old new = Moved (f (moving 1 all)) all old new
 Becomes (trim k) all old new = new ≡ old
 Becomes (reallocate r) all old new = new ≡ old
