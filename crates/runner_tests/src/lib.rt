@@ -197,4 +197,31 @@ mod tests {
         );
         Ok(())
     }
+
+    #[test]
+    fn compressions(rt: HostRuntime) -> Result<(), Fail> {
+        let heap = rt.alloc();
+        assert!(rt;
+            answers(
+                heap,
+                b"compress - - -\ninsert 16 1 9\ncompress - - -\ncompress - - -\nget 1 1 -\nget 16 1 -\n",
+                b"ok - - 0 0 0 16\nok 16 1 9 1 16 16\nok - - 1 1 1 16\nok - - 1 1 1 16\nok 1 1 9 1 1 16\n3 - - - 1 1 16\n",
+            )?
+        );
+        assert!(rt;
+            answers(
+                heap,
+                b"limit - - 256\nreserve - - 256\ninsert 256 1 9\ninsert 255 2 8\nremove 256 1 -\ncompress - - -\n",
+                b"ok - - 256 0 0 16\nok - - 256 0 0 256\nok 256 1 9 1 256 256\nok 255 2 8 2 256 256\nok 256 1 9 1 256 256\nok - - 1 1 1 256\n",
+            )?
+        );
+        assert!(rt;
+            answers(
+                heap,
+                b"compress 1 - -\ncompress - - 0\n",
+                b"13 - - - 0 0 16\n13 - - - 0 0 16\n"
+            )?
+        );
+        Ok(())
+    }
 }
