@@ -1,7 +1,7 @@
 ghost use Rattle.std.specs.Prelude.{◌≡◌, None, Option, length, refl};
 ghost use Rattle.kinds.specs.Places.{or_zero};
 ghost use Rattle.slots.specs.Found.{held_in, Within};
-ghost use Rattle.arena.specs.Advance.{given, next, forward, backward, facing};
+ghost use Rattle.arena.specs.Advance.{record_given, place_after, forward, backward, facing};
 ghost use Rattle.arena.specs.Answers.{pointer_of};
 
 use crate::arena::DirectArena;
@@ -71,9 +71,9 @@ impl<P: Ptr> PtrAdvancer<P> {
         &mut self,
         arena: &DirectArena<P, V, S>,
     ) -> Option<Found<P::Gen, V>>
-        ensures item { held_in result ≡ given P.Inx.largest self.old (S.list arena.now) }
+        ensures item { held_in result ≡ record_given P.Inx.largest self.old (S.list arena.now) }
         ensures within { Within result P.Inx.largest }
-        ensures stands { self.new ≡ next P.Inx.largest self.old (S.list arena.now) }
+        ensures stands { self.new ≡ place_after P.Inx.largest self.old (S.list arena.now) }
     {
         let n = self.position;
         if n == 0 || n > P::Inx::max_index() {
@@ -98,9 +98,9 @@ impl<P: Ptr, V: Copy, S: NonZeroInxGenericStack<Slot = DirectSlot<P::Gen, V>>> A
 > for PtrAdvancer<P> {
     type Item = P;
 
-    ghost gives = { λ a s. pointer_of (λ n γ. P.made (P.Inx.indexed n) γ) (given P.Inx.largest a (S.list s)) };
+    ghost gives = { λ a s. pointer_of (λ n γ. P.made (P.Inx.indexed n) γ) (record_given P.Inx.largest a (S.list s)) };
 
-    ghost advanced = { λ a s. next P.Inx.largest a (S.list s) };
+    ghost advanced = { λ a s. place_after P.Inx.largest a (S.list s) };
 
     ghost idle = { forward 0 };
 

@@ -1,10 +1,10 @@
 ghost use Rattle.std.specs.Prelude.{◌≡◌, ◌≤◌, min, cond, length, OnOk};
 ghost use Rattle.outcome.specs.Outcome.{of_reallocation};
 ghost use Rattle.history.specs.Slots.{count};
-ghost use Rattle.history.specs.Mapped.{records};
+ghost use Rattle.history.specs.Mapped.{records, stays, lines_up};
 ghost use Rattle.history.specs.Calls.{bring, hand_over as handing_over, went, entry, Step};
 ghost use Rattle.bulk.specs.Given.{point};
-ghost use Rattle.bulk.specs.Brought.{stays, lines_up, brought, left_by, last_slot};
+ghost use Rattle.bulk.specs.Brought.{brought, left_by, last_slot};
 ghost use Rattle.arena.specs.Reserve.{MadeRoom};
 
 use crate::arena::DirectArena;
@@ -26,7 +26,7 @@ impl<P: Ptr, V: Copy, S: NonZeroInxGenericStack<Slot = DirectSlot<P::Gen, V>>> D
         ensures grown { MadeRoom S.regrown S.room P.Inx.largest (length (S.list self.old)) slots (of_reallocation result) (S.config self.old) (S.config self.new) }
         ensures room { OnOk result (slots ≤ min (S.room (S.config self.new)) P.Inx.largest) }
     {
-        let _ = &self.m; // the proof looks inside: no slot is beyond the largest index
+        let _ = &self.m; // reading the field gives the proof that no slot is beyond the largest index
         if slots <= self.capacity() {
             return Ok(());
         }

@@ -2,11 +2,11 @@
 use Rattle.std.proofs.Common.{◌≡◌, ℕ, suc, ◌+◌, ◌≤◌, true, List, [], ◌∷◌, drop, sym, refl, ap, ◌∙◌, arith}
 use Rattle.kinds.specs.declared.slot.DirectSlot.TheVariants.{Free, Allocated}
 use Rattle.history.specs.Slots.{Slots, Ptr, Held, to, ptr, at, count, held, write}
-use Rattle.history.specs.Mapped.{records, rising, settle}
-use Rattle.bulk.specs.Brought.{stays, lines_up, brought, left_by}
+use Rattle.history.specs.Mapped.{Place, stays, lines_up, records, rising, settle}
+use Rattle.bulk.specs.Brought.{brought, left_by}
 use Rattle.bulk.proofs.Drops.{drop_held, drop_free, none_held}
 
-module _ {W H G Q P U V : Type 0} (next : W → Q → P → U → W) (mapped : W → Q → P → U → V) (old : Ptr H → Q) (new : Ptr G → P) (place : ℕ → Held H U → Ptr G) where
+module _ {W H G Q P U V : Type 0} (next : W → Q → P → U → W) (mapped : W → Q → P → U → V) (old : Ptr H → Q) (new : Ptr G → P) (place : Place H G U) where
   -- what is still to come, of the records r, when t have come
   abbrev to_come : Slots G V → W → List (Held H U) → Slots G V
   to_come t w hs = settle t (brought next mapped old new place (count t + 1) w hs)

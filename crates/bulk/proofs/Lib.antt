@@ -4,3 +4,4 @@ pub mod Cut
 pub mod Drops
 pub mod Gathered
 pub mod Kept
+pub mod Reports

@@ -1,8 +1,8 @@
 ghost use Rattle.std.specs.Prelude.{◌≡◌, ◌≤◌, [], length, drop};
 ghost use Rattle.history.specs.Slots.{count};
-ghost use Rattle.history.specs.Mapped.{records, settle, freed};
+ghost use Rattle.history.specs.Mapped.{records, stays, lines_up, settle, freed};
 ghost use Rattle.bulk.specs.Given.{point};
-ghost use Rattle.bulk.specs.Brought.{stays, lines_up, brought, left_by, last_slot};
+ghost use Rattle.bulk.specs.Brought.{brought, left_by, last_slot};
 
 use crate::point::point;
 use kinds::{DirectSlot, Ptr, PtrInx};
@@ -21,8 +21,8 @@ pub fn last_slot<G: Copy, V: Copy, S: NonZeroInxGenericStack<Slot = DirectSlot<G
     last_record(m).map_or(0, |found| found.slot)
 }
 
-#[tactic(auto, using(crate::proofs::Drops::behind))]
 /// Copies the records up to the last into empty slots, each at its own pointer and as the mapper leaves it.
+#[tactic(auto, using(crate::proofs::Drops::behind))]
 pub fn copy_records<
     P: Ptr,
     U: Copy,
@@ -41,30 +41,30 @@ pub fn copy_records<
     ensures mapper { F.state mapper.new ≡ left_by F.next F.mapped (point P.Inx.indexed P.made) (point P.Inx.indexed P.made) stays 1 (F.state mapper.old) (records (T.list source.now)) }
     ensures kept { S.config m.new ≡ S.config m.old }
 {
-    for before in 0..last {
-        if let Some(found) = record_at(source, before + 1) {
-            let p = point(before + 1, found.generation);
+    for place in 0..last {
+        if let Some(found) = record_at(source, place + 1) {
+            let p = point(place + 1, found.generation);
             let value = mapper.map(p, p, found.value);
-            place_record(m, before + 1, found.generation, value);
+            place_record(m, place + 1, found.generation, value);
         }
     }
 }
 
-#[tactic(auto, using(crate::proofs::Drops::freed_next, crate::proofs::Drops::freed_all))]
 // Frees all slots.
+#[tactic(auto, using(crate::proofs::Drops::freed_next, crate::proofs::Drops::freed_all))]
 fn free_all<G: Copy, V: Copy, S: NonZeroInxGenericStack<Slot = DirectSlot<G, V>>>(m: &mut S)
     ensures slots { S.list m.new ≡ freed (S.list m.old) }
     ensures long { length (S.list m.new) ≡ length (S.list m.old) }
     ensures kept { S.config m.new ≡ S.config m.old }
 {
-    for before in 0..m.len() {
-        let _ = m.replace(before + 1, DirectSlot::Free);
+    for place in 0..m.len() {
+        let _ = m.replace(place + 1, DirectSlot::Free);
     }
 }
 
-#[tactic(auto, using(crate::proofs::Drops::behind))]
 // Copies the records into empty slots, one after the other from slot 1 on, under one generation and as the mapper
 // leaves them.
+#[tactic(auto, using(crate::proofs::Drops::behind))]
 fn line_up<
     Q: Ptr,
     P: Ptr,
@@ -84,19 +84,19 @@ fn line_up<
     ensures mapper { F.state mapper.new ≡ left_by F.next F.mapped (point Q.Inx.indexed Q.made) (point P.Inx.indexed P.made) (lines_up generation) 1 (F.state mapper.old) (records (T.list source.now)) }
     ensures kept { S.config m.new ≡ S.config m.old }
 {
-    for before in 0..source.len() {
-        if let Some(found) = record_at(source, before + 1) {
+    for place in 0..source.len() {
+        if let Some(found) = record_at(source, place + 1) {
             let n = m.len() + 1;
-            let old = point(before + 1, found.generation);
+            let old = point(place + 1, found.generation);
             let value = mapper.map(old, point(n, generation), found.value);
             place_record(m, n, generation, value);
         }
     }
 }
 
-#[tactic(auto, using(crate::proofs::Drops::freed_free))]
 /// Hands the records of `source` over to empty slots: one after the other from slot 1 on, under one generation, and as
 /// the mapper leaves them. All slots of `source` are free then.
+#[tactic(auto, using(crate::proofs::Drops::freed_free))]
 pub fn hand_over<
     Q: Ptr,
     P: Ptr,

@@ -100,7 +100,7 @@ fn is_taken<
     !is_vacant(m, slot_of(by, item))
 }
 
-// Whether each item does.
+// Whether each item cites an allocated slot.
 fn all_taken<
     G: Copy,
     V: Copy,

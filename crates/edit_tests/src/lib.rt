@@ -116,6 +116,8 @@ mod tests {
         let twice = Err(GetDisjointMutError::OverlappingIndices);
         assert!(rt; a.get_disjoint_mut(&[of(1, 6), of(1, 6)], &mut numbering) == absent);
         assert!(rt; a.get_disjoint_mut(&[of(1, 7), of(1, 7)], &mut numbering) == twice);
+        assert!(rt; a.get_disjoint_mut(&[of(1, 7), of(0, 7)], &mut numbering) == absent);
+        assert!(rt; a.get_disjoint_mut(&[], &mut numbering) == Ok(()) && numbering.next == 100);
         assert!(rt; a.get_disjoint_mut(&[of(5, 9), of(1, 7)], &mut numbering) == Ok(()));
         assert!(rt; a.get(of(5, 9)) == Some(100) && a.get(of(1, 7)) == Some(101));
         assert!(rt; a.get(of(2, 8)) == Some(20));

@@ -1,5 +1,5 @@
 -- The calls that may alter an arena, and what each does to its slots.
-use Rattle.std.specs.Prelude.{◌≡◌, ℕ, ◌-◌, Bool, true, false, cond, not, ◌&&◌, List, [], ◌∷◌, length, Some, None, Option, ◌==◌, nat_le}
+use Rattle.std.specs.Prelude.{◌≡◌, ℕ, ◌-◌, Bool, true, false, cond, not, ◌&&◌, List, [], ◌∷◌, map, length, Some, None, Option, ◌==◌, nat_le}
 use Rattle.outcome.specs.Outcome.{Outcome, done, overflowed, refused}
 use Rattle.kinds.specs.declared.slot.DirectSlot.TheVariants.{Free, Allocated}
 use Rattle.history.specs.Slots.{Slots, Ptr, Held, at, is_free, is_held, has_gen, with_value, write, trimmed}
@@ -15,8 +15,7 @@ slot_of (index n) = n
 slot_of (pointer p) = p.slot
 
 abbrev pub slots_of : {G : Type 0} → List (Name G) → List ℕ
-slots_of [] = []
-slots_of (name ∷ names) = slot_of name ∷ slots_of names
+slots_of names = map slot_of names
 
 -- A call with its arguments. A drain comes with the pointer that it gave by its rule, and `bring`, which is a clone or a
 -- transfer in, with the records that the other arena then shows, as the mapper leaves them; `hand_over` is a transfer

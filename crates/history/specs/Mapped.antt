@@ -1,5 +1,5 @@
 -- What a call on many records shows its mapper of them, and what records and slots become by the values that it gives.
-use Rattle.std.specs.Prelude.{ℕ, suc, Bool, true, cond, ◌&&◌, List, [], ◌∷◌, ◌++◌, ◌==◌, nat_lt}
+use Rattle.std.specs.Prelude.{ℕ, suc, Bool, true, cond, ◌&&◌, List, [], ◌∷◌, ◌++◌, map, ◌==◌, nat_lt}
 use Rattle.kinds.specs.declared.slot.DirectSlot.TheVariants.{Free, Allocated}
 use Rattle.history.specs.Slots.{Slots, Ptr, Held, to, ptr, at, held, with_value, write}
 
@@ -19,30 +19,53 @@ Mapping G V = List (Shown G G V) → List V
 
 -- the mapper that keeps values
 abbrev pub kept : {G V : Type 0} → Mapping G V
-kept [] = []
-kept (x ∷ xs) = x.value ∷ kept xs
+kept xs = map (λ x. x.value) xs
 
 -- the records of slots, by rising slot
 abbrev pub records : {G V : Type 0} → Slots G V → List (Held G V)
 records s = held 1 s
 
--- where the call leaves records in their slots
-abbrev pub in_place : {G V : Type 0} → List (Held G V) → List (Shown G G V)
-in_place [] = []
-in_place (h ∷ hs) = record { pair = record { old = ptr h; new = ptr h }; value = h.value } ∷ in_place hs
+-- Where a call takes a record that is the k-th of those that it goes through.
+abbrev pub Place : (H G U : Type 0) → Type 0
+Place H G U = ℕ → Held H U → Ptr G
+
+-- it stays at its own pointer
+abbrev pub stays : {G U : Type 0} → Place G G U
+stays k h = ptr h
+
+-- it comes to slot k, under its generation
+abbrev pub moves_up : {G U : Type 0} → Place G G U
+moves_up k h = to k h.gen
+
+-- it comes to slot k, under the generation given
+abbrev pub lines_up : {H G U : Type 0} → G → Place H G U
+lines_up g k h = to k g
+
+-- what a call shows of these records, of which the first is the k-th
+abbrev pub going : {H G U : Type 0} → Place H G U → ℕ → List (Held H U) → List (Shown H G U)
+going place k [] = []
+going place k (h ∷ hs) = record { pair = record { old = ptr h; new = place k h }; value = h.value } ∷ going place (suc k) hs
+
+-- where it leaves them in their slots
+abbrev pub in_place : {G U : Type 0} → List (Held G U) → List (Shown G G U)
+in_place hs = map (λ h. record { pair = record { old = ptr h; new = ptr h }; value = h.value }) hs
 
 -- where it moves them, one after the other, to the slots from k on
-abbrev pub moving : {G V : Type 0} → ℕ → List (Held G V) → List (Shown G G V)
-moving k [] = []
-moving k (h ∷ hs) = record { pair = record { old = ptr h; new = to k h.gen }; value = h.value } ∷ moving (suc k) hs
+abbrev pub moving : {G U : Type 0} → ℕ → List (Held G U) → List (Shown G G U)
+moving k hs = going moves_up k hs
 
 abbrev pub pairs : {H G U : Type 0} → List (Shown H G U) → List (Pair H G)
-pairs [] = []
-pairs (x ∷ xs) = x.pair ∷ pairs xs
+pairs xs = map (λ x. x.pair) xs
 
 -- A compression's report: the old and the new pointer of each record, by rising slot.
 abbrev pub report : {G V : Type 0} → List (Held G V) → List (Pair G G)
 report hs = pairs (moving 1 hs)
+
+-- what is shown of records: these pairs, and their values
+abbrev pub shown_by : {H G U : Type 0} → List (Pair H G) → List (Held H U) → List (Shown H G U)
+shown_by [] hs = []
+shown_by (p ∷ ps) [] = []
+shown_by (p ∷ ps) (h ∷ hs) = record { pair = p; value = h.value } ∷ shown_by ps hs
 
 -- the value given first, or the record's own where none was given
 abbrev pub given_or : {V : Type 0} → V → List V → V

@@ -1,6 +1,6 @@
 -- The roll of an arena's records: what each accepted call does to their lines. It is fed calls and whether they were
 -- accepted, and never looks at the slots.
-use Rattle.std.specs.Prelude.{ℕ, suc, ◌+◌, cond, List, [], ◌∷◌, length, Some, None, ◌==◌, nat_lt}
+use Rattle.std.specs.Prelude.{ℕ, suc, ◌+◌, cond, List, [], ◌∷◌, map, length, Some, None, ◌==◌, nat_lt}
 use Rattle.history.specs.Slots.{Held}
 use Rattle.history.specs.Mapped.{in_place, moving, given_or, rest, those_named}
 use Rattle.history.specs.Calls.{slot_of, slots_of, Call, insert, edit, edit_all, remove, drain, clear, bring, hand_over, compress, trim, reallocate, limit, Entry}
@@ -17,8 +17,7 @@ pub record Roll (G V : Type 0) : Type 0 where
 
 -- what stands, by rising slot
 abbrev pub standing : {G V : Type 0} → List (Line G V) → List (Held G V)
-standing [] = []
-standing (l ∷ ls) = l.stand ∷ standing ls
+standing ls = map (λ l. l.stand) ls
 
 -- the line goes in by its slot
 abbrev pub enter : {G V : Type 0} → Line G V → List (Line G V) → List (Line G V)

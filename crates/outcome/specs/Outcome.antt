@@ -55,7 +55,7 @@ abbrev pub of_limit : Result (Unit {0}) MaxCapacityReductionError → Outcome (U
 of_limit (Ok u) = done u
 of_limit (Err e) = refused 8
 
--- a record that is not there 4, one twice 5
+-- a record that is not there 4, a slot named twice 5
 abbrev pub of_disjoint : Result (Unit {0}) GetDisjointMutError → Outcome (Unit {0})
 of_disjoint (Ok u) = done u
 of_disjoint (Err disjoint.IndexOutOfBounds) = refused 4

@@ -26,7 +26,7 @@ pub enum DirectInsertionError {
 #[derive(Clone, Copy, Debug, PartialEq, Eq)]
 pub struct MaxCapacityReductionError;
 
-/// A list edit of a record that is not there, refusal 4, or of a record twice, refusal 5.
+/// A list edit that names a record that is not there, refusal 4, or a slot twice, refusal 5.
 #[derive(Clone, Copy, Debug, PartialEq, Eq)]
 pub enum GetDisjointMutError {
     IndexOutOfBounds,

@@ -5,7 +5,7 @@
 #![tactic(auto)]
 
 ghost use Rattle.std.specs.Prelude.{◌≡◌, []};
-ghost use Rattle.arena.specs.Advance.{given, forward, drained};
+ghost use Rattle.arena.specs.Advance.{record_given, forward, drained};
 
 use arena::DirectArena;
 use invalidation::InvalidationOption;
@@ -17,7 +17,7 @@ use stack::NonZeroInxGenericStack;
 pub fn take_first<P: Ptr, V: Copy, S: NonZeroInxGenericStack<Slot = DirectSlot<P::Gen, V>>>(
     arena: &mut DirectArena<P, V, S>,
 ) -> Option<InvalidationOption<(P, V)>>
-    ensures first { result ≡ drained (λ n γ. P.made (P.Inx.indexed n) γ) (given P.Inx.largest (forward 1) (S.list arena.old)) }
+    ensures first { result ≡ drained (λ n γ. P.made (P.Inx.indexed n) γ) (record_given P.Inx.largest (forward 1) (S.list arena.old)) }
     ensures cleared { S.list arena.new ≡ [] }
     ensures kept { S.config arena.new ≡ S.config arena.old }
 {
@@ -107,8 +107,6 @@ mod tests {
         assert!(rt;
             step(&mut down, &a) == 5 && step(&mut down, &a) == 2 && step(&mut down, &a) == 0
         );
-        assert!(rt; a.find_at_or_above(5) == Some(short(5)) && a.find_at_or_above(6).is_none());
-        assert!(rt; a.find_at_or_below(4) == Some(short(2)) && a.find_at_or_below(1).is_none());
     }
 
     #[test]
@@ -175,6 +173,17 @@ mod tests {
         assert!(rt; fourth == Some(InvalidationOption::Success((short(4), 4))));
         assert!(rt; none.is_none() && len == 0 && slots == 4);
         assert!(rt; done.is_success() && a.slots() == 0);
+        // the arena changes between the steps of a drain, and after it has given none
+        assert!(rt; put(&mut a, 2));
+        let mut drain = a.drain();
+        let _ = a.clear();
+        assert!(rt; put(&mut a, 3));
+        let third = drain.next(&mut a);
+        let none = drain.next(&mut a);
+        assert!(rt; put(&mut a, 4));
+        let done = drain.finish(&mut a);
+        assert!(rt; third == Some(InvalidationOption::Success((short(3), 3))) && none.is_none());
+        assert!(rt; done.is_success() && a.is_empty());
         assert!(rt; put(&mut a, 1) && put(&mut a, 3));
         assert!(rt; take_first(&mut a) == Some(InvalidationOption::Success((short(1), 1))));
         assert!(rt; a.is_empty() && a.slots() == 0);

@@ -3,9 +3,9 @@ use Rattle.bulk.proofs.Brought.{passed_by, brought_in, ended}
 use Rattle.bulk.proofs.copy.copy_records.Goals as goal
 use Rattle.bulk.proofs.copy.copy_records.Goals.{in-Some, in_default}
 
-pub loop-before-preserved : goal.loop-before-preserved
-loop-before-preserved g c =
-    let a = c.loop-before.invariant.brought in
+pub loop-place-preserved : goal.loop-place-preserved
+loop-place-preserved g c =
+    let a = c.loop-place.invariant.brought in
     elim c.match-record_at.branch [
       | in-Some w ↦ record {
         kept = search rules;
@@ -16,7 +16,7 @@ loop-before-preserved g c =
     ]
 
 pub returns-clause-slots : goal.returns-clause-slots
-returns-clause-slots g c = (ended _ _ _ _ _ c.loop-before.invariant.brought (search rules)).0
+returns-clause-slots g c = (ended _ _ _ _ _ c.loop-place.invariant.brought (search rules)).0
 
 pub returns-clause-mapper : goal.returns-clause-mapper
-returns-clause-mapper g c = (ended _ _ _ _ _ c.loop-before.invariant.brought (search rules)).1
+returns-clause-mapper g c = (ended _ _ _ _ _ c.loop-place.invariant.brought (search rules)).1

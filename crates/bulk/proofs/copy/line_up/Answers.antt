@@ -6,21 +6,21 @@ use Rattle.bulk.proofs.copy.line_up.Goals.{in-Some, in_default}
 
 pub point-requires-clause-high : goal.point-requires-clause-high
 point-requires-clause-high g c =
-    let i = c.loop-before.invariant in
+    let i = c.loop-place.invariant in
     omega (arith, one_more _ _ _ _ _ {h = c.in-Some.found.generation} {v = c.in-Some.found.value} i.brought (search rules), c.requires.indexed, i.full, c.len-n.ensures)
 
 pub place_record-requires-clause-high : goal.place_record-requires-clause-high
 place_record-requires-clause-high g c =
-    let i = c.loop-before.invariant in
-    let r : g.S.NonZeroInxGenericStack.room (g.S.NonZeroInxGenericStack.config c.loop-before.m) ≡ g.S.NonZeroInxGenericStack.room (g.S.NonZeroInxGenericStack.config c.args.m.now) = ap g.S.NonZeroInxGenericStack.room i.kept in
+    let i = c.loop-place.invariant in
+    let r : g.S.NonZeroInxGenericStack.room (g.S.NonZeroInxGenericStack.config c.loop-place.m) ≡ g.S.NonZeroInxGenericStack.room (g.S.NonZeroInxGenericStack.config c.args.m.now) = ap g.S.NonZeroInxGenericStack.room i.kept in
     omega (arith, one_more _ _ _ _ _ {h = c.in-Some.found.generation} {v = c.in-Some.found.value} i.brought (search rules), c.requires.room, i.full, c.len-n.ensures, r)
 
-pub loop-before-preserved : goal.loop-before-preserved
-loop-before-preserved g c =
-    let i = c.loop-before.invariant in
+pub loop-place-preserved : goal.loop-place-preserved
+loop-place-preserved g c =
+    let i = c.loop-place.invariant in
     elim c.match-record_at.branch [
       | in-Some w ↦
-          let n : to (w.len-n.result + 1) c.args.generation ≡ to (count (g.S.NonZeroInxGenericStack.list c.loop-before.m) + 1) c.args.generation = ap (λ k. to (k + 1) c.args.generation) (w.len-n.ensures ∙ i.full) in
+          let n : to (w.len-n.result + 1) c.args.generation ≡ to (count (g.S.NonZeroInxGenericStack.list c.loop-place.m) + 1) c.args.generation = ap (λ k. to (k + 1) c.args.generation) (w.len-n.ensures ∙ i.full) in
           record {
             kept = search rules;
             brought = rw (w.m-is, w.mapper-is, w.map-value.ensures.goes_on) (brought_in _ _ _ _ _ i.brought (search rules) n w.point-old.ensures w.point.ensures w.map-value.ensures.gives w.place_record.ensures.slots w.place_record.ensures.counted);
