@@ -1,5 +1,5 @@
 //! The arena: records under pointers in the slots of any stack, calls on one and on many, advancers and drains.
-//! It uses every crate from `kinds` to `bulk`, `mapper`, and `stack`'s traits; it knows no stack and no text.
+//! It uses `bulk`, `slots`, `mapper`, `invalidation`, `stack`'s traits and what these use; it knows no stack and no text.
 //! Each call that may alter an arena promises the step that histories are made of; `len` carries the laws over them.
 
 #![tactic(auto)]

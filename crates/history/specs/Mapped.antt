@@ -1,5 +1,6 @@
 -- What a call on many records shows its mapper of them, and what records and slots become by the values that it gives.
-use Rattle.std.specs.Prelude.{ℕ, suc, Bool, true, cond, ◌&&◌, List, [], ◌∷◌, ◌++◌, map, ◌==◌, nat_lt}
+use Rattle.std.specs.Prelude.{ℕ, suc, Bool, true, ◌&&◌, List, [], ◌∷◌, filter, map, ◌==◌, nat_lt}
+use Rattle.std.specs.List.{flat_map}
 use Rattle.kinds.specs.declared.slot.DirectSlot.TheVariants.{Free, Allocated}
 use Rattle.history.specs.Slots.{Slots, Ptr, Held, to, ptr, at, held, with_value, write}
 
@@ -83,13 +84,11 @@ packed vs (h ∷ hs) = Allocated h.gen (given_or h.value vs) ∷ packed (rest vs
 
 -- the records that stand at slot n: one, or none
 abbrev pub those_at : {G V : Type 0} → ℕ → List (Held G V) → List (Held G V)
-those_at n [] = []
-those_at n (h ∷ hs) = cond (h.slot == n) (h ∷ those_at n hs) (those_at n hs)
+those_at n hs = filter (λ h. h.slot == n) hs
 
 -- the records at the slots of a list, in its order
 abbrev pub those_named : {G V : Type 0} → List ℕ → List (Held G V) → List (Held G V)
-those_named [] hs = []
-those_named (n ∷ ns) hs = those_at n hs ++ those_named ns hs
+those_named ns hs = flat_map (λ n. those_at n hs) ns
 
 -- values put into the records at the slots of a list, one after the other
 abbrev pub put_all : {G V : Type 0} → List ℕ → List V → Slots G V → Slots G V
@@ -109,5 +108,4 @@ rising n (h ∷ hs) = nat_lt n h.slot && rising h.slot hs
 
 -- all slots free
 abbrev pub freed : {G V : Type 0} → Slots G V → Slots G V
-freed [] = []
-freed (x ∷ s) = Free ∷ freed s
+freed s = map (λ x. Free) s

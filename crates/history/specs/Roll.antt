@@ -1,6 +1,6 @@
 -- The roll of an arena's records: what each accepted call does to their lines. It is fed calls and whether they were
 -- accepted, and never looks at the slots.
-use Rattle.std.specs.Prelude.{ℕ, suc, ◌+◌, cond, List, [], ◌∷◌, map, length, Some, None, ◌==◌, nat_lt}
+use Rattle.std.specs.Prelude.{ℕ, suc, ◌+◌, cond, not, List, [], ◌∷◌, filter, map, length, Some, None, ◌==◌, nat_lt}
 use Rattle.history.specs.Slots.{Held}
 use Rattle.history.specs.Mapped.{in_place, moving, given_or, rest, those_named}
 use Rattle.history.specs.Calls.{slot_of, slots_of, Call, insert, edit, edit_all, remove, drain, clear, bring, hand_over, compress, trim, reallocate, limit, Entry}
@@ -29,8 +29,7 @@ valued v l = record { number = l.number; stand = record { slot = l.stand.slot; g
 
 -- the line at slot n takes the value
 abbrev pub put_in : {G V : Type 0} → ℕ → V → List (Line G V) → List (Line G V)
-put_in n v [] = []
-put_in n v (l ∷ ls) = cond (l.stand.slot == n) (valued v l) l ∷ put_in n v ls
+put_in n v ls = map (λ l. cond (l.stand.slot == n) (valued v l) l) ls
 
 -- values put into the lines at these slots, in order
 abbrev pub put_each : {G V : Type 0} → List ℕ → List V → List (Line G V) → List (Line G V)
@@ -40,8 +39,7 @@ put_each (n ∷ ns) (v ∷ vs) ls = put_each ns vs (put_in n v ls)
 
 -- the line at slot n ends
 abbrev pub without : {G V : Type 0} → ℕ → List (Line G V) → List (Line G V)
-without n [] = []
-without n (l ∷ ls) = cond (l.stand.slot == n) (without n ls) (l ∷ without n ls)
+without n ls = filter (λ l. not (l.stand.slot == n)) ls
 
 -- the lines get the slots from k on, by rising slot, and these values
 abbrev pub resettled : {G V : Type 0} → ℕ → List V → List (Line G V) → List (Line G V)
