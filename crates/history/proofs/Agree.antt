@@ -1,12 +1,13 @@
 -- The slots are those of the lines, in their order, and stay so under each call.
-use Rattle.std.proofs.Common.{◌≡◌, ℕ, zero, suc, ◌+◌, ◌-◌, ◌<◌, ◌≤◌, Bool, true, false, ◌&&◌, leb, List, [], ◌∷◌, ◌++◌, length, Some, None, refl, ap, append-nil, append_assoc, arith}
+use Rattle.std.proofs.Common.{◌≡◌, ℕ, zero, suc, ◌+◌, ◌-◌, ◌<◌, ◌≤◌, Bool, true, false, ◌&&◌, leb, List, [], ◌∷◌, ◌++◌, map, length, is_some, Some, None, Option, cond, refl, ap, append-nil, append_assoc, arith}
 use Rattle.std.specs.List.{slice_get}
 use Rattle.std.proofs.lemmas.Bool.{le-ltb, eq-eqb, ne_eqb}
 use Rattle.kinds.specs.declared.slot.DirectSlot.TheVariants.{Free, Allocated}
 use Rattle.history.specs.Slots.{Slots, Held, or_free, at, held, is_free, with_value, place, write, pop_free, trimmed}
 use Rattle.history.specs.Mapped.{rest, packed, put_all, settle, rising, freed}
-use Rattle.history.specs.Calls.{slot_of, slots_of, Call, insert, edit, edit_all, remove, drain, clear, bring, hand_over, compress, trim, reallocate, limit, Entry, after, asks, Step}
-use Rattle.history.specs.Roll.{Line, Roll, standing, enter, put_in, put_each, without, resettled, numbered, rolled}
+use Rattle.history.specs.Recasts.{Recasting, or_kept, recast_each, recast_until, allocated, join_each}
+use Rattle.history.specs.Calls.{slot_of, slots_of, Call, insert, edit, edit_all, remove, drain, clear, bring, hand_over, compress, recast, join, trim, reallocate, limit, Entry, after, asks, Step}
+use Rattle.history.specs.Roll.{Line, Roll, standing, enter, put_in, put_each, without, resettled, recast_line, recast_lines_until, recastable, numbered, rolled}
 
 abbrev pub line : {G V : Type 0} → ℕ → ℕ → G → V → Line G V
 line i k g v = record { number = i; stand = record { slot = k; gen = g; value = v } }
@@ -127,6 +128,36 @@ packed_agrees : {G V : Type 0} (k : ℕ) (vs : List V) (ls : List (Line G V)) �
 packed_agrees k vs [] = none
 packed_agrees k vs (l ∷ ls) = full (packed_agrees (suc k) (rest vs) ls)
 
+recast_agrees : {G V : Type 0} {k : ℕ} {s : Slots G V} {ls : List (Line G V)} → (q : Recasting V) → Agrees G V k s ls → Agrees G V k (recast_each q s) (map (recast_line q) ls)
+recast_agrees q none = none
+recast_agrees q (free a) = free (recast_agrees q a)
+recast_agrees q (full a) = full (recast_agrees q a)
+
+-- a slot's value recast if it is held, and what stands behind it as it is if not
+until_next : {G V : Type 0} {k : ℕ} {s t : Slots G V} {ls ms : List (Line G V)} → (i : ℕ) (g : G) (v : V) (o : Option V) → Agrees G V (suc k) s ls → Agrees G V (suc k) t ms →
+    Agrees G V k (cond (is_some o) (Allocated g (or_kept v o) ∷ t) (Allocated g v ∷ s)) (cond (is_some o) (line i k g (or_kept v o) ∷ ms) (line i k g v ∷ ls))
+until_next i g v None a b = full a
+until_next i g v (Some u) a b = full b
+
+until_agrees : {G V : Type 0} {k : ℕ} {s : Slots G V} {ls : List (Line G V)} → (q : Recasting V) → Agrees G V k s ls → Agrees G V k (recast_until q s) (recast_lines_until q ls)
+until_agrees q none = none
+until_agrees q (free a) = free (until_agrees q a)
+until_agrees q (full {i = i} {g = g} {v = v} a) = until_next i g v (q v) a (until_agrees q a)
+
+map_cond : {X Y : Type 0} (f : X → Y) (b : Bool) (x : X) (xs : List X) → map f (cond b (x ∷ xs) xs) ≡ cond b (f x ∷ map f xs) (map f xs)
+map_cond f true x xs = refl
+map_cond f false x xs = refl
+
+join_next : {G V : Type 0} {k : ℕ} {s : Slots G V} {ls : List (Line G V)} → (i : ℕ) (g : G) (v : V) (o : Option V) → Agrees G V (suc k) s ls →
+    Agrees G V k (allocated g o ∷ s) (cond (is_some o) (line i k g (or_kept v o) ∷ ls) ls)
+join_next i g v None a = free a
+join_next i g v (Some u) a = full a
+
+join_agrees : {G V : Type 0} {k : ℕ} {s : Slots G V} {ls : List (Line G V)} → (q : Recasting V) → Agrees G V k s ls → Agrees G V k (join_each q s) (map (recast_line q) (recastable q ls))
+join_agrees q none = none
+join_agrees q (free a) = free (join_agrees q a)
+join_agrees q (full {k = k} {i = i} {g = g} {v = v} {ls = ls} a) = rw (map_cond (recast_line q) (is_some (q v)) (line i k g v) (recastable q ls)) (join_next i g v (q v) (join_agrees q a))
+
 module _ {G V : Type 0} (alike : G → G → Bool) (r : Roll G V) (s : Slots G V) (a : Agrees G V 1 s r.lines) where
   call_agrees : (c : Call G V) (b : Bool) → (b ≡ true → asks alike c s ≡ true) → Agrees G V 1 (after (record { call = c; accepted = b }) s) (rolled (record { call = c; accepted = b }) r).lines
   call_agrees (insert p v) true h = insert_agrees p.slot r.next p.gen v (h refl) a
@@ -139,6 +170,8 @@ module _ {G V : Type 0} (alike : G → G → Bool) (r : Roll G V) (s : Slots G V
   call_agrees (bring hs) true h = settle_agrees hs r.next [] [] (h refl) none
   call_agrees hand_over true h = freed_agrees 1 s
   call_agrees (compress f) true h = rw (records_of a) (packed_agrees 1 _ r.lines)
+  call_agrees (recast q) true h = recast_agrees q a
+  call_agrees (join q) true h = join_agrees q a
   call_agrees (trim k) true h = trim_agrees k a
   call_agrees (reallocate n) true h = trim_agrees (length s - n) a
   call_agrees (limit l) true h = trim_agrees (length s - l) a
@@ -151,6 +184,8 @@ module _ {G V : Type 0} (alike : G → G → Bool) (r : Roll G V) (s : Slots G V
   call_agrees (bring hs) false h = a
   call_agrees hand_over false h = a
   call_agrees (compress f) false h = a
+  call_agrees (recast q) false h = until_agrees q a
+  call_agrees (join q) false h = a
   call_agrees (trim k) false h = a
   call_agrees (reallocate n) false h = trim_agrees (length s - n) a
   call_agrees (limit l) false h = trim_agrees (length s - l) a

@@ -4,7 +4,7 @@ use Rattle.std.proofs.lemmas.Option.{slice_get_within}
 use Rattle.std.specs.List.{slice_get}
 use Rattle.kinds.specs.declared.slot.DirectSlot.TheVariants.{Allocated}
 use Rattle.history.specs.Slots.{Slots, Held, ptr, or_free, at, count}
-use Rattle.history.specs.Calls.{Call, Entry, Leads, made, next}
+use Rattle.history.specs.Calls.{Call, Entry, Leads, still, next}
 use Rattle.history.specs.Roll.{Line, Roll, standing, rolled, roll}
 use Rattle.history.specs.Laws.{In, Stands, Arrived, Carries, Ordered, Brings, Follows, Lawful}
 use Rattle.history.proofs.Agree.{Agrees, none, free, full, line, records_of, step_agrees}
@@ -98,8 +98,8 @@ module _ {G V : Type 0} where
 
 module _ {G V : Type 0} (alike : G → G → Bool) where
   sound : (h : List (Entry G V)) (s : Slots G V) → Leads alike h s → Sound (roll h) s
-  sound [] s made = record { agrees = none; below = λ m i. absurd i; one = λ m n i j e. absurd i }
-  sound (e ∷ h) t (next {s = s} l x) =
+  sound [] s still = record { agrees = none; below = λ m i. absurd i; one = λ m n i j e. absurd i }
+  sound (e ∷ h) t (next {t = s} l x) =
       let d = sound h s l in
       let a = step_agrees alike (roll h) s d.agrees e t x in
       record { agrees = a; below = step_below e (roll h) s d; one = step_one e (roll h) s t d a }
@@ -126,8 +126,8 @@ module _ {G V : Type 0} (alike : G → G → Bool) where
       at_slot (suc n) g v e = only_at d.agrees n (suc n) g v (omega arith) (grind arith)
 
   arrived : (h : List (Entry G V)) (s : Slots G V) → Leads alike h s → (m : Line G V) → In m (roll h).lines → Arrived h m
-  arrived [] s made m i = absurd i
-  arrived (e ∷ h) t (next {s = s} l x) m i = go (arrived h s l) (stems e (roll h) m i)
+  arrived [] s still m i = absurd i
+  arrived (e ∷ h) t (next {t = s} l x) m i = go (arrived h s l) (stems e (roll h) m i)
     where
       go : ((k : Line G V) → In k (roll h).lines → Arrived h k) → New e (roll h) m ⊎ Stem e (roll h).lines m → Arrived (e ∷ h) m
       go rest (inl y) = record {
@@ -176,7 +176,7 @@ module _ {G V : Type 0} (alike : G → G → Bool) where
   kept [] h s k t a l m i j e =
       let q = (sound h s k).one l m i j e in
       record { carried = cc; reported = cc; gen = cc }
-  kept (e ∷ later) h s k t (next {s = u} a x) l m i j q =
+  kept (e ∷ later) h s k t (next {t = u} a x) l m i j q =
       let y = old_stem e later h s k l m i j q in
       let b = kept later h s k u a l y.line i y.was (q ∙ sym y.number) in
       let w = sent e (roll (later ++ h)).lines m y in
@@ -187,7 +187,7 @@ module _ {G V : Type 0} (alike : G → G → Bool) where
       let q = (sound h s k).one l m i j e in
       let q' = (sound h s k).one l' m' i' j' e' in
       grind arith
-  ordered (e ∷ later) h s k t (next {s = u} a x) l l' m m' i i' j j' q q' lt =
+  ordered (e ∷ later) h s k t (next {t = u} a x) l l' m m' i i' j j' q q' lt =
       let y = old_stem e later h s k l m i j q in
       let y' = old_stem e later h s k l' m' i' j' q' in
       let b = ordered later h s k u a l l' y.line y'.line i i' y.was y'.was (q ∙ sym y.number) (q' ∙ sym y'.number) lt in
@@ -196,7 +196,7 @@ module _ {G V : Type 0} (alike : G → G → Bool) where
   -- the history up to an earlier moment led to slots too
   earlier : (later h : List (Entry G V)) (t : Slots G V) → Leads alike (later ++ h) t → (s : Slots G V) × Leads alike h s
   earlier [] h t a = (t, a)
-  earlier (e ∷ later) h t (next {s = u} a x) = earlier later h u a
+  earlier (e ∷ later) h t (next {t = u} a x) = earlier later h u a
 
   pub lawful : (s : Slots G V) (len : ℕ) → len ≡ count s → Lawful alike s len
   lawful s len c = record {

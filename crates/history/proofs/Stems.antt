@@ -1,11 +1,15 @@
 -- Each line after a call is a new one, or comes from a line before it.
-use Rattle.std.proofs.Common.{◌≡◌, ℕ, suc, ◌+◌, ◌≤◌, Bool, true, false, cond, eqb, ◌⊎◌, List, [], ◌∷◌, Some, None, refl, inl, inr, arith}
+use Rattle.std.proofs.Common.{◌≡◌, ℕ, suc, ◌+◌, ◌≤◌, Bool, true, false, cond, eqb, ◌⊎◌, List, [], ◌∷◌, ◌++◌, map, is_some, Some, None, Option, refl, inl, inr, arith}
 use Rattle.std.specs.List.{slice_get}
-use Rattle.history.specs.Slots.{Held, ptr}
+use Rattle.history.specs.Slots.{Held, ptr, revalued}
 use Rattle.history.specs.Mapped.{rest, moving, pairs}
-use Rattle.history.specs.Calls.{slot_of, slots_of, Call, insert, edit, edit_all, remove, drain, clear, bring, hand_over, compress, trim, reallocate, limit, Entry}
-use Rattle.history.specs.Roll.{Line, Roll, standing, enter, valued, put_in, put_each, without, resettled, numbered, rolled}
-use Rattle.history.specs.Laws.{In, latest, or_kept, Passes, Brings}
+use Rattle.history.specs.Recasts.{Recasting, or_kept, recast_or_kept}
+use Rattle.history.specs.Calls.{slot_of, slots_of, Call, insert, edit, edit_all, remove, drain, clear, bring, hand_over, compress, recast, join, trim, reallocate, limit, Entry, recast_of}
+use Rattle.history.specs.Roll.{Line, Roll, standing, enter, valued, put_in, put_each, without, resettled, recast_line, recast_lines_until, recastable, numbered, rolled}
+use Rattle.history.specs.Laws.{In, latest, Until, Passes, Brings}
+
+unheld : {V : Type 0} (q : Recasting V) (v : V) → is_some (q v) ≡ false → recast_or_kept q v ≡ v
+unheld q v h = grind arith
 
 module _ {G V : Type 0} where
   -- a line that an accepted call adds
@@ -76,6 +80,77 @@ module _ {G V : Type 0} where
       (l.number ≡ m.number) × (m.stand ≡ cond (eqb l.stand.slot name-slot) (record { slot = l.stand.slot; gen = l.stand.gen; value = v }) l.stand)
   valued_stem n v l m e = grind arith
 
+  in_recast : (q : Recasting V) (m : Line G V) (ls : List (Line G V)) → In m (map (recast_line q) ls) → (l : Line G V) × In l ls × (m ≡ recast_line q l)
+  in_recast q m [] i = absurd i
+  in_recast q m (l ∷ ls) (inl e) = (l, inl refl, e)
+  in_recast q m (l ∷ ls) (inr i) = let b = in_recast q m ls i in (b.0, inr b.1, b.2)
+
+  in_recastable : (q : Recasting V) (m : Line G V) (ls : List (Line G V)) → In m (recastable q ls) → In m ls × (is_some (q m.stand.value) ≡ true)
+  in_recastable q m [] i = absurd i
+  in_recastable q m (l ∷ ls) i = grind (arith, in_recastable q m ls)
+
+  joined : (q : Recasting V) (l m : Line G V) → is_some (q l.stand.value) ≡ true → m ≡ recast_line q l → (q l.stand.value ≡ Some m.stand.value) × (m.stand ≡ revalued m.stand.value l.stand)
+  joined q l m h e = (grind arith, grind arith)
+
+  -- what a recast leaves that stops: a line's value is recast if all before it are held
+  record Reached (q : Recasting V) (ls : List (Line G V)) (m : Line G V) : Type 0 where
+    line : Line G V
+    was : In line ls
+    number : line.number ≡ m.number
+    until : Until q (standing ls) line.stand m.stand
+
+  reached_first : (q : Recasting V) (l m : Line G V) (ls : List (Line G V)) → m ≡ recast_line q l → Reached q (l ∷ ls) m
+  reached_first q l m ls e = record {
+    line = l;
+    was = inl refl;
+    number = grind arith;
+    until = record { lower = []; higher = standing ls; parts = refl; value = cc };
+  }
+
+  reached_next : (q : Recasting V) (l m : Line G V) (ls : List (Line G V)) → is_some (q l.stand.value) ≡ true → Reached q ls m → Reached q (l ∷ ls) m
+  reached_next q l m ls h b = record {
+    line = b.line;
+    was = inr b.was;
+    number = b.number;
+    until = record { lower = l.stand ∷ b.until.lower; higher = b.until.higher; parts = cc b.until.parts; value = rw h b.until.value };
+  }
+
+  parted : (m : Line G V) (ls : List (Line G V)) → In m ls → (front : List (Held G V)) × (back : List (Held G V)) × (standing ls ≡ front ++ m.stand ∷ back)
+  parted m [] i = absurd i
+  parted m (l ∷ ls) (inl e) = ([], standing ls, grind arith)
+  parted m (l ∷ ls) (inr i) = let b = parted m ls i in (l.stand ∷ b.0, b.1, cc b.2)
+
+  -- a line that a recast did not come to, behind one whose value is not held
+  reached_not : (q : Recasting V) (l m : Line G V) (ls : List (Line G V)) → is_some (q l.stand.value) ≡ false → In m (l ∷ ls) → Reached q (l ∷ ls) m
+  reached_not q l m ls h (inl e) = record {
+    line = l;
+    was = inl refl;
+    number = grind arith;
+    until = record { lower = []; higher = standing ls; parts = refl; value = grind (arith, unheld q l.stand.value h) };
+  }
+  reached_not q l m ls h (inr i) =
+      let b = parted m ls i in
+      record {
+        line = m;
+        was = inr i;
+        number = refl;
+        until = record { lower = l.stand ∷ b.0; higher = b.1; parts = cc b.2; value = rw h refl };
+      }
+
+  in_until : (q : Recasting V) (m : Line G V) (ls : List (Line G V)) → In m (recast_lines_until q ls) → Reached q ls m
+  in_until q m [] i = absurd i
+  in_until q m (l ∷ ls) i = by_held (is_some (q l.stand.value)) refl i (in_until q m ls)
+    where
+      by_held : (b : Bool) → is_some (q l.stand.value) ≡ b → In m (cond (is_some (q l.stand.value)) (recast_line q l ∷ recast_lines_until q ls) (l ∷ ls)) →
+          (In m (recast_lines_until q ls) → Reached q ls m) → Reached q (l ∷ ls) m
+      by_held true h j others = elim (rw h at j) [ inl d ↦ reached_first q l m ls d | inr k ↦ reached_next q l m ls h (others k) ]
+      by_held false h j others = reached_not q l m ls h (rw h at j)
+
+  refused_stems : (c : Call G V) (o : Option (Recasting V)) → recast_of c ≡ o → (r : Roll G V) (m : Line G V) → In m (rolled (record { call = c; accepted = false }) r).lines →
+      New (record { call = c; accepted = false }) r m ⊎ Stem (record { call = c; accepted = false }) r.lines m
+  refused_stems c None e r m i = inr (record { line = m; was = rw e at i; number = refl; passes = rw e refl })
+  refused_stems c (Some q) e r m i = let b = in_until q m r.lines (rw e at i) in inr (record { line = b.line; was = b.was; number = b.number; passes = rw e b.until })
+
   call_stems : (c : Call G V) (b : Bool) (r : Roll G V) (m : Line G V) → In m (rolled (record { call = c; accepted = b }) r).lines → New (record { call = c; accepted = b }) r m ⊎ Stem (record { call = c; accepted = b }) r.lines m
   call_stems (insert p v) true r m i = elim (in_enter _ m r.lines i) [
     | inl e ↦ inl (record { place = 0; went = refl; brought = (refl, cc); number = grind arith })
@@ -97,10 +172,17 @@ module _ {G V : Type 0} where
   call_stems (compress f) true r m i =
       let b = in_resettled 1 (f (moving 1 (standing r.lines))) r.lines m i in
       inr (record { line = b.line; was = b.was; number = b.number; passes = record { reported = b.reported; gen = b.gen; value = grind (arith, b.slot, b.value) } })
+  call_stems (recast q) true r m i =
+      let b = in_recast q m r.lines i in
+      inr (record { line = b.0; was = b.1; number = cc; passes = cc })
+  call_stems (join q) true r m i =
+      let b = in_recast q m (recastable q r.lines) i in
+      let a = in_recastable q b.0 r.lines b.1 in
+      inr (record { line = b.0; was = a.0; number = cc; passes = joined q b.0 m a.1 b.2 })
   call_stems (trim k) true r m i = inr (record { line = m; was = i; number = refl; passes = refl })
   call_stems (reallocate n) true r m i = inr (record { line = m; was = i; number = refl; passes = refl })
   call_stems (limit l) true r m i = inr (record { line = m; was = i; number = refl; passes = refl })
-  call_stems c false r m i = inr (record { line = m; was = i; number = refl; passes = refl })
+  call_stems c false r m i = refused_stems c (recast_of c) refl r m i
 
   pub stems : (e : Entry G V) (r : Roll G V) (m : Line G V) → In m (rolled e r).lines → New e r m ⊎ Stem e r.lines m
   stems e r m i = call_stems e.call e.accepted r m i

@@ -4,6 +4,7 @@ use Rattle.outcome.specs.Outcome.{Outcome, done, overflowed, refused}
 use Rattle.kinds.specs.declared.slot.DirectSlot.TheVariants.{Free, Allocated}
 use Rattle.history.specs.Slots.{Slots, Ptr, Held, at, is_free, is_held, has_gen, with_value, write, trimmed}
 use Rattle.history.specs.Mapped.{Mapping, records, in_place, moving, packed, those_named, put_all, settle, rising, freed}
+use Rattle.history.specs.Recasts.{Recasting, all_recast, recast_each, recast_until, join_each}
 
 -- How a call names a record: by an index, or by a pointer, whose generation is then asked for.
 pub data Name (G : Type 0) : Type 0 where
@@ -30,9 +31,16 @@ pub data Call (G V : Type 0) : Type 0 where
   bring : List (Held G V) → Call G V
   hand_over : Call G V
   compress : Mapping G V → Call G V
+  recast : Recasting V → Call G V
+  join : Recasting V → Call G V
   trim : ℕ → Call G V
   reallocate : ℕ → Call G V
   limit : ℕ → Call G V
+
+-- the recast that a call makes, if it is one
+abbrev pub recast_of : {G V : Type 0} → Call G V → Option (Recasting V)
+recast_of (recast q) = Some q
+recast_of c = None
 
 -- A line of a history: a call, and whether it was accepted.
 pub record Entry (G V : Type 0) : Type 0 where
@@ -60,11 +68,14 @@ effect clear s = []
 effect (bring hs) s = settle [] hs
 effect hand_over s = freed s
 effect (compress f) s = packed (f (moving 1 (records s))) (records s)
+effect (recast q) s = recast_each q s
+effect (join q) s = join_each q s
 effect (trim k) s = trimmed k s
 effect (reallocate r) s = trimmed (length s - r) s
 effect (limit l) s = trimmed (length s - l) s
 
--- what a refused call leaves: the trim before a capacity request stands
+-- what a refused call leaves: the trim before a capacity request stands, and so does what a recast did before the first
+-- value that is not held
 abbrev pub leaves : {G V : Type 0} → Call G V → Slots G V → Slots G V
 leaves (insert p v) s = s
 leaves (edit name v) s = s
@@ -75,6 +86,8 @@ leaves clear s = s
 leaves (bring hs) s = s
 leaves hand_over s = s
 leaves (compress f) s = s
+leaves (recast q) s = recast_until q s
+leaves (join q) s = s
 leaves (trim k) s = s
 leaves (reallocate r) s = trimmed (length s - r) s
 leaves (limit l) s = trimmed (length s - l) s
@@ -113,6 +126,8 @@ module _ {G V : Type 0} (alike : G → G → Bool) where
   asks (bring hs) s = rising 0 hs
   asks hand_over s = true
   asks (compress f) s = true
+  asks (recast q) s = all_recast q (records s)
+  asks (join q) s = true
   asks (trim k) s = true
   asks (reallocate r) s = true
   asks (limit l) s = true
@@ -122,7 +137,11 @@ module _ {G V : Type 0} (alike : G → G → Bool) where
     pub asked : e.accepted ≡ true → asks e.call s ≡ true
     pub slots : t ≡ after e s
 
-  -- A history, newest first, leads from a new arena to these slots.
-  pub data Leads : List (Entry G V) → Slots G V → Type 0 where
-    made : Leads [] []
-    next : {e : Entry G V} {h : List (Entry G V)} {s t : Slots G V} → Leads h s → Step e s t → Leads (e ∷ h) t
+  -- Calls, newest first, lead from slots to slots.
+  pub data Through (s : Slots G V) : List (Entry G V) → Slots G V → Type 0 where
+    still : Through s [] s
+    next : {e : Entry G V} {h : List (Entry G V)} {t u : Slots G V} → Through s h t → Step e t u → Through s (e ∷ h) u
+
+  -- A history leads from a new arena to these slots.
+  abbrev pub Leads : List (Entry G V) → Slots G V → Type 0
+  Leads h s = Through [] h s

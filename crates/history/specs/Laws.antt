@@ -3,9 +3,10 @@ use Rattle.std.specs.Prelude.{◌≡◌, ℕ, ◌+◌, ◌<◌, Bool, true, cond
 use Rattle.std.specs.List.{slice_get}
 use Rattle.kinds.specs.Places.{slot_at}
 use Rattle.kinds.specs.declared.slot.DirectSlot.TheVariants.{Allocated}
-use Rattle.history.specs.Slots.{Slots, Ptr, Held, ptr, at}
+use Rattle.history.specs.Slots.{Slots, Ptr, Held, ptr, revalued, at}
 use Rattle.history.specs.Mapped.{records, in_place, moving, report, those_named}
-use Rattle.history.specs.Calls.{slot_of, slots_of, Call, insert, edit, edit_all, remove, drain, clear, bring, hand_over, compress, trim, reallocate, limit, Entry, Leads}
+use Rattle.history.specs.Recasts.{Recasting, or_kept, recast_or_kept, all_recast}
+use Rattle.history.specs.Calls.{slot_of, slots_of, Call, insert, edit, edit_all, remove, drain, clear, bring, hand_over, compress, recast, join, trim, reallocate, limit, Entry, recast_of, Leads}
 use Rattle.history.specs.Roll.{Line, standing, roll}
 
 abbrev pub In : {X : Type 0} → X → List X → Type 0
@@ -28,10 +29,6 @@ latest n [] vs v = v
 latest n (m ∷ ms) [] v = v
 latest n (m ∷ ms) (u ∷ us) v = latest n ms us (cond (n == m) u v)
 
-abbrev pub or_kept : {V : Type 0} → V → Option V → V
-or_kept v None = v
-or_kept v (Some u) = u
-
 -- What a compression makes of a record, of those that stand: its pointers are a pair of the report, its generation
 -- stays, and its value is that which the mapper gives in its place.
 pub record Moved {G V : Type 0} (given : List V) (all : List (Held G V)) (old new : Held G V) : Type 0 where
@@ -39,25 +36,40 @@ pub record Moved {G V : Type 0} (given : List V) (all : List (Held G V)) (old ne
   pub gen : new.gen ≡ old.gen
   pub value : new.value ≡ or_kept old.value (slot_at given new.slot)
 
+-- What a refused recast leaves of a record, of those that stand: its value is recast if those of all records in lower
+-- slots are held.
+pub record Until {G V : Type 0} (q : Recasting V) (all : List (Held G V)) (old new : Held G V) : Type 0 where
+  pub lower : List (Held G V)
+  pub higher : List (Held G V)
+  pub parts : all ≡ lower ++ old ∷ higher
+  pub value : new ≡ revalued (cond (all_recast q lower) (recast_or_kept q old.value) old.value) old
+
 -- What a record that stands before an accepted call, and after it, is after it; `all` stand before it. None stands
 -- both before and after a call that ends all.
 abbrev pub Becomes : {G V : Type 0} → Call G V → List (Held G V) → Held G V → Held G V → Type 0
 Becomes (insert p v) all old new = new ≡ old
-Becomes (edit name v) all old new = new ≡ cond (old.slot == slot_of name) (record { slot = old.slot; gen = old.gen; value = v }) old
+Becomes (edit name v) all old new = new ≡ cond (old.slot == slot_of name) (revalued v old) old
 Becomes (edit_all names f) all old new =
-    new ≡ record { slot = old.slot; gen = old.gen; value = latest old.slot (slots_of names) (f (in_place (those_named (slots_of names) all))) old.value }
+    new ≡ revalued (latest old.slot (slots_of names) (f (in_place (those_named (slots_of names) all))) old.value) old
 Becomes (remove name) all old new = new ≡ old
 Becomes (drain p) all old new = new ≡ old
 Becomes clear all old new = ⊥
 Becomes (bring hs) all old new = ⊥
 Becomes hand_over all old new = ⊥
 Becomes (compress f) all old new = Moved (f (moving 1 all)) all old new
+Becomes (recast q) all old new = new ≡ revalued (recast_or_kept q old.value) old
+Becomes (join q) all old new = (q old.value ≡ Some new.value) × (new ≡ revalued new.value old)
 Becomes (trim k) all old new = new ≡ old
 Becomes (reallocate r) all old new = new ≡ old
 Becomes (limit l) all old new = new ≡ old
 
+-- what it is after a refused one: the same, but for a recast
+abbrev pub Remains : {G V : Type 0} → Option (Recasting V) → List (Held G V) → Held G V → Held G V → Type 0
+Remains None all old new = new ≡ old
+Remains (Some q) all old new = Until q all old new
+
 abbrev pub Passes : {G V : Type 0} → Entry G V → List (Held G V) → Held G V → Held G V → Type 0
-Passes e all old new = cond e.accepted (Becomes e.call all old new) (new ≡ old)
+Passes e all old new = cond e.accepted (Becomes e.call all old new) (Remains (recast_of e.call) all old new)
 
 -- what stands after a history
 abbrev pub standing_after : {G V : Type 0} → List (Entry G V) → List (Held G V)
@@ -80,6 +92,8 @@ Sends clear all old new = new ≡ old
 Sends (bring hs) all old new = new ≡ old
 Sends hand_over all old new = new ≡ old
 Sends (compress f) all old new = In (record { old = old; new = new }) (report all)
+Sends (recast q) all old new = new ≡ old
+Sends (join q) all old new = new ≡ old
 Sends (trim k) all old new = new ≡ old
 Sends (reallocate r) all old new = new ≡ old
 Sends (limit l) all old new = new ≡ old
@@ -104,6 +118,8 @@ Brings clear k first = ⊥
 Brings (bring hs) k first = slice_get hs k ≡ Some first
 Brings hand_over k first = ⊥
 Brings (compress f) k first = ⊥
+Brings (recast q) k first = ⊥
+Brings (join q) k first = ⊥
 Brings (trim n) k first = ⊥
 Brings (reallocate r) k first = ⊥
 Brings (limit l) k first = ⊥

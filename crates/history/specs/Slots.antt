@@ -25,6 +25,10 @@ to n g = record { slot = n; gen = g }
 abbrev pub ptr : {G V : Type 0} → Held G V → Ptr G
 ptr h = to h.slot h.gen
 
+-- with another value
+abbrev pub revalued : {G V : Type 0} → V → Held G V → Held G V
+revalued v h = record { slot = h.slot; gen = h.gen; value = v }
+
 abbrev pub or_free : {G V : Type 0} → Option (DirectSlot G V) → DirectSlot G V
 or_free None = Free
 or_free (Some x) = x
