@@ -2,3 +2,5 @@ pub mod Agree
 pub mod Stems
 pub mod Moves
 pub mod Runs
+pub mod Joins
+pub mod Spans

@@ -12,7 +12,7 @@ use Rattle.history.proofs.Stems.{New, Stem, stems, grows}
 use Rattle.history.proofs.Moves.{lines_rise, passes_sent, follows_order}
 
 module _ {G V : Type 0} where
-  slot_low : {k : ℕ} {s : Slots G V} {ls : List (Line G V)} → Agrees G V k s ls → (l : Line G V) → In l ls → k ≤ l.stand.slot
+  pub slot_low : {k : ℕ} {s : Slots G V} {ls : List (Line G V)} → Agrees G V k s ls → (l : Line G V) → In l ls → k ≤ l.stand.slot
   slot_low none l i = absurd i
   slot_low (free a) l i = omega (arith, slot_low a l i)
   slot_low (full a) l (inl e) = grind arith
@@ -48,13 +48,13 @@ module _ {G V : Type 0} where
   counted_at (full a) = ap suc (counted_at a)
 
   -- what a history keeps
-  record Sound (r : Roll G V) (s : Slots G V) : Type 0 where
-    agrees : Agrees G V 1 s r.lines
-    below : (m : Line G V) → In m r.lines → m.number < r.next
-    one : (m n : Line G V) → In m r.lines → In n r.lines → m.number ≡ n.number → m ≡ n
+  pub record Sound (r : Roll G V) (s : Slots G V) : Type 0 where
+    pub agrees : Agrees G V 1 s r.lines
+    pub below : (m : Line G V) → In m r.lines → m.number < r.next
+    pub one : (m n : Line G V) → In m r.lines → In n r.lines → m.number ≡ n.number → m ≡ n
 
   -- where the call sent the pointer of the line that m was
-  sent : (e : Entry G V) (ls : List (Line G V)) (m : Line G V) (x : Stem e ls m) → Follows e (standing ls) (ptr x.line.stand) (ptr m.stand) × (m.stand.gen ≡ x.line.stand.gen)
+  pub sent : (e : Entry G V) (ls : List (Line G V)) (m : Line G V) (x : Stem e ls m) → Follows e (standing ls) (ptr x.line.stand) (ptr m.stand) × (m.stand.gen ≡ x.line.stand.gen)
   sent e ls m x = passes_sent e (standing ls) x.line.stand m.stand x.passes
 
   -- two lines that were lines before keep their order
@@ -62,7 +62,7 @@ module _ {G V : Type 0} where
       (x.line.stand.slot < y.line.stand.slot → m.stand.slot < n.stand.slot) × (x.line.stand.slot ≡ y.line.stand.slot → m.stand.slot ≡ n.stand.slot)
   stems_order e r s d m n x y = follows_order e (standing r.lines) (ptr x.line.stand) (ptr m.stand) (ptr y.line.stand) (ptr n.stand) (lines_rise d.agrees) (sent e r.lines m x).0 (sent e r.lines n y).0
 
-  brings_one : (c : Call G V) (k : ℕ) (a b : Held G V) → Brings c k a → Brings c k b → a ≡ b
+  pub brings_one : (c : Call G V) (k : ℕ) (a b : Held G V) → Brings c k a → Brings c k b → a ≡ b
   brings_one c k a b x y = grind arith
 
   new_old : (e : Entry G V) (r : Roll G V) (s : Slots G V) → Sound r s → (m n : Line G V) → New e r m → Stem e r.lines n → m.number ≡ n.number → ⊥
@@ -85,7 +85,7 @@ module _ {G V : Type 0} where
           let l = d.one x.line y.line x.was y.was (x.number ∙ k ∙ sym y.number) in
           slot_one a m n i j ((stems_order e r s d m n x y).1 (ap (λ (z : Line G V). z.stand.slot) l))
 
-  new_below : (c : Call G V) (b : Bool) (r : Roll G V) (k : ℕ) (a : Held G V) → b ≡ true → Brings c k a → r.next + k < (rolled (record { call = c; accepted = b }) r).next
+  pub new_below : (c : Call G V) (b : Bool) (r : Roll G V) (k : ℕ) (a : Held G V) → b ≡ true → Brings c k a → r.next + k < (rolled (record { call = c; accepted = b }) r).next
   new_below c false r k a e x = cc
   new_below c true r k a e x = grind (arith, slice_get_within)
 
@@ -97,14 +97,14 @@ module _ {G V : Type 0} where
       go (inr x) = omega (arith, grows e r, d.below x.line x.was, x.number)
 
 module _ {G V : Type 0} (alike : G → G → Bool) where
-  sound : (h : List (Entry G V)) (s : Slots G V) → Leads alike h s → Sound (roll h) s
+  pub sound : (h : List (Entry G V)) (s : Slots G V) → Leads alike h s → Sound (roll h) s
   sound [] s still = record { agrees = none; below = λ m i. absurd i; one = λ m n i j e. absurd i }
   sound (e ∷ h) t (next {t = s} l x) =
       let d = sound h s l in
       let a = step_agrees alike (roll h) s d.agrees e t x in
       record { agrees = a; below = step_below e (roll h) s d; one = step_one e (roll h) s t d a }
 
-  stands : (h : List (Entry G V)) (s : Slots G V) → Leads alike h s → (len : ℕ) → len ≡ count s → Stands (roll h).lines s len
+  pub stands : (h : List (Entry G V)) (s : Slots G V) → Leads alike h s → (len : ℕ) → len ≡ count s → Stands (roll h).lines s len
   stands h s l len c = record {
     each = λ x i. at_line x i x.stand.slot refl;
     only = at_slot;
@@ -160,7 +160,7 @@ module _ {G V : Type 0} (alike : G → G → Bool) where
             gen = w.1 ∙ a.gen;
           }
 
-  grown : (later h : List (Entry G V)) → (roll h).next ≤ (roll (later ++ h)).next
+  pub grown : (later h : List (Entry G V)) → (roll h).next ≤ (roll (later ++ h)).next
   grown [] h = omega arith
   grown (e ∷ later) h = omega (arith, grown later h, grows e (roll (later ++ h)))
 
@@ -194,7 +194,7 @@ module _ {G V : Type 0} (alike : G → G → Bool) where
       (stems_order e (roll (later ++ h)) u (sound (later ++ h) u a) m m' y y').0 b
 
   -- the history up to an earlier moment led to slots too
-  earlier : (later h : List (Entry G V)) (t : Slots G V) → Leads alike (later ++ h) t → (s : Slots G V) × Leads alike h s
+  pub earlier : (later h : List (Entry G V)) (t : Slots G V) → Leads alike (later ++ h) t → (s : Slots G V) × Leads alike h s
   earlier [] h t a = (t, a)
   earlier (e ∷ later) h t (next {t = u} a x) = earlier later h u a
 

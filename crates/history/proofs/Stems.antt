@@ -1,5 +1,5 @@
 -- Each line after a call is a new one, or comes from a line before it.
-use Rattle.std.proofs.Common.{◌≡◌, ℕ, suc, ◌+◌, ◌≤◌, Bool, true, false, cond, eqb, ◌⊎◌, List, [], ◌∷◌, ◌++◌, map, is_some, Some, None, Option, refl, inl, inr, arith}
+use Rattle.std.proofs.Common.{◌≡◌, ℕ, suc, ◌+◌, ◌≤◌, Bool, true, false, cond, eqb, ◌⊎◌, List, [], ◌∷◌, ◌++◌, map, is_some, Some, None, Option, refl, ap, inl, inr, arith}
 use Rattle.std.specs.List.{slice_get}
 use Rattle.history.specs.Slots.{Held, ptr, revalued}
 use Rattle.history.specs.Mapped.{rest, moving, pairs}
@@ -7,6 +7,17 @@ use Rattle.history.specs.Recasts.{Recasting, or_kept, recast_or_kept}
 use Rattle.history.specs.Calls.{slot_of, slots_of, Call, insert, edit, edit_all, remove, drain, clear, bring, hand_over, compress, recast, join, trim, reallocate, limit, Entry, recast_of}
 use Rattle.history.specs.Roll.{Line, Roll, standing, enter, valued, put_in, put_each, without, resettled, recast_line, recast_lines_until, recastable, numbered, rolled}
 use Rattle.history.specs.Laws.{In, latest, Until, Passes, Brings}
+
+-- what is in a mapped list, comes from what is in the list
+pub in_map : {X Y : Type 0} (f : X → Y) (y : Y) (xs : List X) → In y (map f xs) → (x : X) × In x xs × (y ≡ f x)
+in_map f y [] i = absurd i
+in_map f y (x ∷ xs) (inl e) = (x, inl refl, e)
+in_map f y (x ∷ xs) (inr i) = let b = in_map f y xs i in (b.0, inr b.1, b.2)
+
+pub map_in : {X Y : Type 0} (f : X → Y) (x : X) (xs : List X) → In x xs → In (f x) (map f xs)
+map_in f x [] i = absurd i
+map_in f x (y ∷ ys) (inl e) = inl (ap f e)
+map_in f x (y ∷ ys) (inr i) = inr (map_in f x ys i)
 
 unheld : {V : Type 0} (q : Recasting V) (v : V) → is_some (q v) ≡ false → recast_or_kept q v ≡ v
 unheld q v h = grind arith
@@ -30,11 +41,6 @@ module _ {G V : Type 0} where
   in_enter l m [] i = grind arith
   in_enter l m (k ∷ ks) i = grind (arith, in_enter l m ks)
 
-  in_put : (n : ℕ) (v : V) (m : Line G V) (ls : List (Line G V)) → In m (put_in n v ls) → (l : Line G V) × In l ls × (m ≡ cond (eqb l.stand.slot n) (valued v l) l)
-  in_put n v m [] i = absurd i
-  in_put n v m (l ∷ ls) (inl e) = (l, inl refl, e)
-  in_put n v m (l ∷ ls) (inr i) = let b = in_put n v m ls i in (b.0, inr b.1, b.2)
-
   then_put : (n : ℕ) (v : V) (ns : List ℕ) (vs : List V) (l k m : Line G V) → k ≡ cond (eqb l.stand.slot n) (valued v l) l →
       m ≡ record { number = k.number; stand = record { slot = k.stand.slot; gen = k.stand.gen; value = latest k.stand.slot ns vs k.stand.value } } →
       m ≡ record { number = l.number; stand = record { slot = l.stand.slot; gen = l.stand.gen; value = latest l.stand.slot (n ∷ ns) (v ∷ vs) l.stand.value } }
@@ -46,7 +52,7 @@ module _ {G V : Type 0} where
   in_put_each (n ∷ ns) [] m ls i = (m, i, refl)
   in_put_each (n ∷ ns) (v ∷ vs) m ls i =
       let b = in_put_each ns vs m (put_in n v ls) i in
-      let a = in_put n v b.0 ls b.1 in
+      let a = in_map (λ (l : Line G V). cond (eqb l.stand.slot n) (valued v l) l) b.0 ls b.1 in
       (a.0, a.1, then_put n v ns vs a.0 b.0 m a.2 b.2)
 
   in_without : (n : ℕ) (m : Line G V) (ls : List (Line G V)) → In m (without n ls) → In m ls
@@ -79,11 +85,6 @@ module _ {G V : Type 0} where
   valued_stem : (name-slot : ℕ) (v : V) (l m : Line G V) → m ≡ cond (eqb l.stand.slot name-slot) (valued v l) l →
       (l.number ≡ m.number) × (m.stand ≡ cond (eqb l.stand.slot name-slot) (record { slot = l.stand.slot; gen = l.stand.gen; value = v }) l.stand)
   valued_stem n v l m e = grind arith
-
-  in_recast : (q : Recasting V) (m : Line G V) (ls : List (Line G V)) → In m (map (recast_line q) ls) → (l : Line G V) × In l ls × (m ≡ recast_line q l)
-  in_recast q m [] i = absurd i
-  in_recast q m (l ∷ ls) (inl e) = (l, inl refl, e)
-  in_recast q m (l ∷ ls) (inr i) = let b = in_recast q m ls i in (b.0, inr b.1, b.2)
 
   in_recastable : (q : Recasting V) (m : Line G V) (ls : List (Line G V)) → In m (recastable q ls) → In m ls × (is_some (q m.stand.value) ≡ true)
   in_recastable q m [] i = absurd i
@@ -157,7 +158,7 @@ module _ {G V : Type 0} where
     | inr j ↦ inr (record { line = m; was = j; number = refl; passes = refl })
   ]
   call_stems (edit name v) true r m i =
-      let b = in_put (slot_of name) v m r.lines i in
+      let b = in_map (λ (l : Line G V). cond (eqb l.stand.slot (slot_of name)) (valued v l) l) m r.lines i in
       let d = valued_stem (slot_of name) v b.0 m b.2 in
       inr (record { line = b.0; was = b.1; number = d.0; passes = d.1 })
   call_stems (edit_all names f) true r m i =
@@ -173,10 +174,10 @@ module _ {G V : Type 0} where
       let b = in_resettled 1 (f (moving 1 (standing r.lines))) r.lines m i in
       inr (record { line = b.line; was = b.was; number = b.number; passes = record { reported = b.reported; gen = b.gen; value = grind (arith, b.slot, b.value) } })
   call_stems (recast q) true r m i =
-      let b = in_recast q m r.lines i in
+      let b = in_map (recast_line q) m r.lines i in
       inr (record { line = b.0; was = b.1; number = cc; passes = cc })
   call_stems (join q) true r m i =
-      let b = in_recast q m (recastable q r.lines) i in
+      let b = in_map (recast_line q) m (recastable q r.lines) i in
       let a = in_recastable q b.0 r.lines b.1 in
       inr (record { line = b.0; was = a.0; number = cc; passes = joined q b.0 m a.1 b.2 })
   call_stems (trim k) true r m i = inr (record { line = m; was = i; number = refl; passes = refl })

@@ -1,6 +1,9 @@
 pub mod Slots
+pub mod Records
 pub mod Mapped
 pub mod Recasts
 pub mod Calls
 pub mod Roll
 pub mod Laws
+pub mod Directories
+pub mod Spans
