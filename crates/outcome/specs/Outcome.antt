@@ -5,6 +5,11 @@ use Rattle.outcome.specs.declared.errors.NotWithinCapacityError.{NotWithinCapaci
 use Rattle.outcome.specs.declared.errors.MaxCapacityReductionError.{MaxCapacityReductionError}
 use Rattle.outcome.specs.declared.errors.ReallocationError.{ReallocationError}
 use Rattle.outcome.specs.declared.errors.ReallocationError.TheVariants as realloc
+use Rattle.outcome.specs.declared.errors.ArenaReallocationError.{ArenaReallocationError}
+use Rattle.outcome.specs.declared.errors.ArenaReallocationError.TheVariants as arena_realloc
+use Rattle.outcome.specs.declared.errors.DirectoryError.{DirectoryError}
+use Rattle.outcome.specs.declared.errors.DirectoryError.TheVariants as directory
+use Rattle.outcome.specs.declared.errors.NotHeldError.{NotHeldError}
 use Rattle.outcome.specs.declared.errors.DirectInsertionError.{DirectInsertionError}
 use Rattle.outcome.specs.declared.errors.DirectInsertionError.TheVariants as insertion
 use Rattle.outcome.specs.declared.errors.GetDisjointMutError.{GetDisjointMutError}
@@ -44,11 +49,37 @@ abbrev pub of_clearing : {X : Type 0} → InvalidationOption X → Outcome X
 of_clearing (option.Success x) = done x
 of_clearing (option.GenerationOverflow x) = overflowed x
 
--- beyond the maximum 6, no memory or no index 7
+-- beyond the maximum 6, no memory 7
 abbrev pub of_reallocation : Result (Unit {0}) ReallocationError → Outcome (Unit {0})
 of_reallocation (Ok u) = done u
 of_reallocation (Err realloc.BeyondMaxCapacity) = refused 6
 of_reallocation (Err realloc.AllocError) = refused 7
+
+-- the stack's fault under its own number, no index 7
+abbrev pub of_arena_reallocation : Result (Unit {0}) ArenaReallocationError → Outcome (Unit {0})
+of_arena_reallocation (Ok u) = done u
+of_arena_reallocation (Err (arena_realloc.Stack e)) = of_reallocation (Err e)
+of_arena_reallocation (Err arena_realloc.BeyondIndices) = refused 7
+
+-- a directory that is given no room for a report 10
+abbrev pub of_directory : Result (Unit {0}) DirectoryError → Outcome (Unit {0})
+of_directory (Ok u) = done u
+of_directory (Err e) = refused 10
+
+-- what the directory's arena answered when asked for that room
+abbrev pub room_of : Result (Unit {0}) DirectoryError → Outcome (Unit {0})
+room_of (Ok u) = done u
+room_of (Err (directory.NoRoom e)) = of_arena_reallocation (Err e)
+
+-- a pointer that is not held 9
+abbrev pub of_recast : {X V : Type 0} → Result X (NotHeldError V) → Outcome X
+of_recast (Ok x) = done x
+of_recast (Err e) = refused 9
+
+-- the pointer that was not held
+abbrev pub lost : {X V : Type 0} → Result X (NotHeldError V) → Option V
+lost (Ok x) = None
+lost (Err e) = Some e.pointer
 
 -- a limit below the slots 8
 abbrev pub of_limit : Result (Unit {0}) MaxCapacityReductionError → Outcome (Unit {0})

@@ -1,5 +1,7 @@
-ghost use Rattle.std.specs.Prelude.{Some};
-ghost use Rattle.outcome.specs.Texts.{within_text, reallocation_text, insertion_text, reduction_text, disjoint_text};
+ghost use Rattle.std.specs.Prelude.{◌≡◌, Some};
+ghost use Rattle.outcome.specs.Texts.{within_text, reallocation_text, arena_reallocation_text, directory_text, not_held_text, insertion_text, reduction_text, disjoint_text};
+ghost use Rattle.outcome.specs.declared.errors.ArenaReallocationError.TheVariants.{Stack};
+ghost use Rattle.outcome.specs.declared.errors.DirectoryError.TheVariants.{NoRoom};
 
 use std::error::Error;
 use std::fmt;
@@ -8,11 +10,30 @@ use std::fmt;
 #[derive(Clone, Copy, Debug, PartialEq, Eq)]
 pub struct NotWithinCapacityError;
 
-/// A reallocation beyond the maximum, refusal 6, or one that finds no memory or no index, refusal 7.
+/// A reallocation beyond the stack's maximum, refusal 6, or one that finds no memory, refusal 7.
 #[derive(Clone, Copy, Debug, PartialEq, Eq)]
 pub enum ReallocationError {
     BeyondMaxCapacity,
     AllocError,
+}
+
+/// Why an arena was given no room: its stack's fault, refusal 6 or 7, or no index for so many slots, refusal 7.
+#[derive(Clone, Copy, Debug, PartialEq, Eq)]
+pub enum ArenaReallocationError {
+    Stack(ReallocationError),
+    BeyondIndices,
+}
+
+/// A directory whose arena was given no room for a report: refusal 10.
+#[derive(Clone, Copy, Debug, PartialEq, Eq)]
+pub enum DirectoryError {
+    NoRoom(ArenaReallocationError),
+}
+
+/// A pointer that the directory does not hold: refusal 9.
+#[derive(Clone, Copy, Debug, PartialEq, Eq)]
+pub struct NotHeldError<V> {
+    pub pointer: V,
 }
 
 /// An insertion beyond the capacity, refusal 1, or at a slot that is taken, refusal 2.
@@ -51,6 +72,41 @@ impl fmt::Display for ReallocationError {
             }
             ReallocationError::AllocError => "a memory reallocation failed",
         })
+    }
+}
+
+impl fmt::Display for ArenaReallocationError {
+    ghost output = { λ e. Some (arena_reallocation_text e) };
+
+    fn fmt<W: fmt::Write>(&self, f: &mut fmt::Formatter<W>) -> fmt::Result {
+        match self {
+            ArenaReallocationError::Stack(fault) => {
+                write!(f, "the stack of the arena was given no room: {fault}")
+            }
+            ArenaReallocationError::BeyondIndices => {
+                f.write_str("a capacity beyond the largest index was asked for")
+            }
+        }
+    }
+}
+
+impl fmt::Display for DirectoryError {
+    ghost output = { λ e. Some (directory_text e) };
+
+    fn fmt<W: fmt::Write>(&self, f: &mut fmt::Formatter<W>) -> fmt::Result {
+        match self {
+            DirectoryError::NoRoom(fault) => {
+                write!(f, "the directory was given no room for a report: {fault}")
+            }
+        }
+    }
+}
+
+impl<V> fmt::Display for NotHeldError<V> {
+    ghost output = { λ _. Some not_held_text };
+
+    fn fmt<W: fmt::Write>(&self, f: &mut fmt::Formatter<W>) -> fmt::Result {
+        f.write_str("the directory does not hold this pointer")
     }
 }
 
@@ -94,8 +150,30 @@ impl Error for NotWithinCapacityError {}
 
 impl Error for ReallocationError {}
 
+impl Error for ArenaReallocationError {}
+
+impl Error for DirectoryError {}
+
+impl<V: fmt::Debug + Drop> Error for NotHeldError<V> {}
+
 impl Error for DirectInsertionError {}
 
 impl Error for MaxCapacityReductionError {}
 
 impl Error for GetDisjointMutError {}
+
+impl From<ReallocationError> for ArenaReallocationError {
+    ghost from_gives = { λ e r. r ≡ Stack e };
+
+    fn from(error: ReallocationError) -> Self {
+        ArenaReallocationError::Stack(error)
+    }
+}
+
+impl From<ArenaReallocationError> for DirectoryError {
+    ghost from_gives = { λ e r. r ≡ NoRoom e };
+
+    fn from(error: ArenaReallocationError) -> Self {
+        DirectoryError::NoRoom(error)
+    }
+}

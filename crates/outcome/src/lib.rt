@@ -7,6 +7,6 @@
 pub mod errors;
 
 pub use errors::{
-    DirectInsertionError, GetDisjointMutError, MaxCapacityReductionError, NotWithinCapacityError,
-    ReallocationError,
+    ArenaReallocationError, DirectInsertionError, DirectoryError, GetDisjointMutError,
+    MaxCapacityReductionError, NotHeldError, NotWithinCapacityError, ReallocationError,
 };
