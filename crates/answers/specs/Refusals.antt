@@ -2,7 +2,7 @@
 use Rattle.std.specs.Prelude.{ℕ, Ok, Err, Result}
 use Rattle.answers.specs.declared.answer.Concerned.{Concerned}
 use Rattle.answers.specs.declared.refusal.Refusal.{Refusal}
-use Rattle.answers.specs.declared.refusal.Refusal.TheVariants.{NotWithinCapacity, SlotTaken, NotFound, BeyondMaxCapacity, NoMemory, LimitBelowSlots, NotAScript, UnknownCall, UnfitField}
+use Rattle.answers.specs.declared.refusal.Refusal.TheVariants.{NotWithinCapacity, SlotTaken, NotFound, BeyondMaxCapacity, NoMemory, LimitBelowSlots, NotHeld, NoRoomForReport, NotAScript, UnknownCall, UnfitField}
 use Rattle.outcome.specs.Outcome.{Outcome, done, refused}
 
 abbrev pub number_of : Refusal → ℕ
@@ -12,6 +12,8 @@ number_of NotFound = 3
 number_of BeyondMaxCapacity = 6
 number_of NoMemory = 7
 number_of LimitBelowSlots = 8
+number_of NotHeld = 9
+number_of NoRoomForReport = 10
 number_of NotAScript = 11
 number_of UnknownCall = 12
 number_of UnfitField = 13

@@ -1,12 +1,15 @@
 // Why a call was refused, and the number that is printed for it.
 ghost use Rattle.std.specs.Prelude.{◌≡◌, Some, Err, decimal};
 ghost use Rattle.answers.specs.Refusals.{number_of};
-ghost use Rattle.outcome.specs.Outcome.{refused, of_insertion, of_reallocation, of_limit};
+ghost use Rattle.outcome.specs.Outcome.{refused, of_insertion, of_arena_reallocation, of_limit, of_directory, of_recast};
 
-use outcome::{DirectInsertionError, MaxCapacityReductionError, ReallocationError};
+use outcome::{
+    ArenaReallocationError, DirectInsertionError, DirectoryError, MaxCapacityReductionError,
+    NotHeldError, ReallocationError,
+};
 use std::fmt;
 
-/// Why a call was refused. Numbers 4, 5, 9 and 10 belong to calls that are still to come.
+/// Why a call was refused. No report shows 4 or 5: a script asks for no list edit.
 #[derive(Clone, Copy, Debug, PartialEq, Eq)]
 pub enum Refusal {
     NotWithinCapacity = 1,
@@ -16,6 +19,9 @@ pub enum Refusal {
     /// No memory, no lent slot or no index for it.
     NoMemory = 7,
     LimitBelowSlots = 8,
+    /// A directory does not hold the pointer.
+    NotHeld = 9,
+    NoRoomForReport = 10,
     NotAScript = 11,
     UnknownCall = 12,
     UnfitField = 13,
@@ -49,13 +55,16 @@ impl From<DirectInsertionError> for Refusal {
     }
 }
 
-impl From<ReallocationError> for Refusal {
-    ghost from_gives = { λ e r. refused (number_of r) ≡ of_reallocation (Err e) };
+impl From<ArenaReallocationError> for Refusal {
+    ghost from_gives = { λ e r. refused (number_of r) ≡ of_arena_reallocation (Err e) };
 
-    fn from(error: ReallocationError) -> Self {
+    fn from(error: ArenaReallocationError) -> Self {
         match error {
-            ReallocationError::BeyondMaxCapacity => Refusal::BeyondMaxCapacity,
-            ReallocationError::AllocError => Refusal::NoMemory,
+            ArenaReallocationError::Stack(ReallocationError::BeyondMaxCapacity) => {
+                Refusal::BeyondMaxCapacity
+            }
+            ArenaReallocationError::Stack(ReallocationError::AllocError)
+            | ArenaReallocationError::BeyondIndices => Refusal::NoMemory,
         }
     }
 }
@@ -65,5 +74,21 @@ impl From<MaxCapacityReductionError> for Refusal {
 
     fn from(_error: MaxCapacityReductionError) -> Self {
         Refusal::LimitBelowSlots
+    }
+}
+
+impl From<DirectoryError> for Refusal {
+    ghost from_gives = { λ e r. refused (number_of r) ≡ of_directory (Err e) };
+
+    fn from(_error: DirectoryError) -> Self {
+        Refusal::NoRoomForReport
+    }
+}
+
+impl<V: Drop> From<NotHeldError<V>> for Refusal {
+    ghost from_gives = { λ e r. refused (number_of r) ≡ of_recast {X = Unit {0}} (Err e) };
+
+    fn from(_error: NotHeldError<V>) -> Self {
+        Refusal::NotHeld
     }
 }

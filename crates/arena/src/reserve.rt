@@ -1,5 +1,5 @@
 ghost use Rattle.std.specs.Prelude.{◌≡◌, ◌-◌, length, nat_lt};
-ghost use Rattle.outcome.specs.Outcome.{done, of_limit, of_reallocation};
+ghost use Rattle.outcome.specs.Outcome.{done, of_limit, of_arena_reallocation};
 ghost use Rattle.stack.specs.Limits.{limit_answer, Bounded};
 ghost use Rattle.history.specs.Slots.{trimmed};
 ghost use Rattle.history.specs.Calls.{trim, reallocate, limit, entry, Step};
@@ -7,7 +7,7 @@ ghost use Rattle.arena.specs.Reserve.{Reallocated, Relimited};
 
 use crate::arena::DirectArena;
 use kinds::{DirectSlot, Ptr, PtrInx};
-use outcome::{MaxCapacityReductionError, ReallocationError};
+use outcome::{ArenaReallocationError, MaxCapacityReductionError};
 use slots::pop_free;
 use stack::{NonZeroInxGenericStack, SetMaxCapacity};
 
@@ -36,15 +36,19 @@ impl<P: Ptr, V: Copy, S: NonZeroInxGenericStack<Slot = DirectSlot<P::Gen, V>>> D
 
     /// Asks the stack for room for `min_capacity` slots. Free slots beyond it are popped first, and stay popped when
     /// the request is refused.
-    pub fn reallocate_min_capacity(&mut self, min_capacity: usize) -> Result<(), ReallocationError>
-        ensures step { Step P.Gen.eq (entry (reallocate min_capacity) (of_reallocation result)) (S.list self.old) (S.list self.new) }
-        ensures grown { Reallocated S.regrown (nat_lt P.Inx.largest min_capacity) (S.config self.old) (length (S.list self.new)) min_capacity (of_reallocation result) (S.config self.new) }
+    pub fn reallocate_min_capacity(
+        &mut self,
+        min_capacity: usize,
+    ) -> Result<(), ArenaReallocationError>
+        ensures step { Step P.Gen.eq (entry (reallocate min_capacity) (of_arena_reallocation result)) (S.list self.old) (S.list self.new) }
+        ensures grown { Reallocated S.regrown (nat_lt P.Inx.largest min_capacity) (S.config self.old) (length (S.list self.new)) min_capacity (of_arena_reallocation result) (S.config self.new) }
     {
         self.trim_to(min_capacity);
         if min_capacity > P::Inx::max_index() {
-            return Err(ReallocationError::AllocError);
+            return Err(ArenaReallocationError::BeyondIndices);
         }
-        self.m.reallocate_min_capacity(min_capacity)
+        self.m.reallocate_min_capacity(min_capacity)?;
+        Ok(())
     }
 }
 

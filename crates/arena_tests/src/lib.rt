@@ -10,7 +10,7 @@ mod tests {
     use invalidation::InvalidationResult;
     use kinds::{DirectSlot, PtrInx, PtrOf, SeasonGen, SheetInx, ShortInx, Unmarked};
     use limited::LimitedStack;
-    use outcome::{DirectInsertionError, ReallocationError};
+    use outcome::{ArenaReallocationError, DirectInsertionError, ReallocationError};
     use slab_stack::SlabStack;
     use stack::{FixedStack, NonZeroInxGenericStack, SetMaxCapacity};
 
@@ -150,8 +150,11 @@ mod tests {
                 == Err(DirectInsertionError::NotWithinCapacity)
         );
         assert!(rt; a.get(on(40, 1)).is_none());
-        assert!(rt; a.reallocate_min_capacity(8_000) == Err(ReallocationError::BeyondMaxCapacity));
-        assert!(rt; a.reallocate_min_capacity(8_001) == Err(ReallocationError::AllocError));
+        assert!(rt;
+            a.reallocate_min_capacity(8_000)
+                == Err(ArenaReallocationError::Stack(ReallocationError::BeyondMaxCapacity))
+        );
+        assert!(rt; a.reallocate_min_capacity(8_001) == Err(ArenaReallocationError::BeyondIndices));
     }
 
     #[test]

@@ -14,7 +14,7 @@ mod tests {
     use kinds::{DirectSlot, Ptr, PtrInx, PtrOf, SeasonGen, SheetInx, ShortInx, Unmarked};
     use limited::LimitedStack;
     use mapper::{AddCorrection, KeepValues, Mapper};
-    use outcome::ReallocationError;
+    use outcome::{ArenaReallocationError, ReallocationError};
     use slab_stack::SlabStack;
     use stack::{FixedStack, NonZeroInxGenericStack};
 
@@ -202,7 +202,8 @@ mod tests {
         assert!(rt; a.slots() == 4 && a.get(of(4, 104)) == Some(4000));
         assert!(rt; put(&mut source, 1) && put(&mut source, 5));
         assert!(rt;
-            a.clone_from_with(&source, &mut trail) == Err(ReallocationError::BeyondMaxCapacity)
+            a.clone_from_with(&source, &mut trail)
+                == Err(ArenaReallocationError::Stack(ReallocationError::BeyondMaxCapacity))
         );
         assert!(rt; trail.old == 4 && trail.new == 4 && a.slots() == 4 && a.len() == 1);
         assert!(rt; a.get(of(4, 104)) == Some(4000) && a.get(of(1, 101)).is_none());
@@ -218,7 +219,10 @@ mod tests {
         assert!(rt; put(&mut source, 3) && a.clone_from_with(&source, &mut trail) == Ok(()));
         assert!(rt; a.slots() == 3 && a.capacity() == 4 && a.get(of(3, 103)) == Some(3000));
         assert!(rt; put(&mut source, 6));
-        assert!(rt; a.clone_from_with(&source, &mut trail) == Err(ReallocationError::AllocError));
+        assert!(rt;
+            a.clone_from_with(&source, &mut trail)
+                == Err(ArenaReallocationError::Stack(ReallocationError::AllocError))
+        );
         assert!(rt; trail.old == 3 && a.slots() == 3 && a.capacity() == 4 && a.len() == 1);
         assert!(rt; a.get(of(3, 103)) == Some(3000));
     }
@@ -257,13 +261,13 @@ mod tests {
         assert!(rt; book.direct_insert_within_capacity(on(0, 2), 7) == Ok(()));
         assert!(rt;
             book.transfer_reallocating(Unmarked, &mut source, &mut trail)
-                == Err(ReallocationError::BeyondMaxCapacity)
+                == Err(ArenaReallocationError::Stack(ReallocationError::BeyondMaxCapacity))
         );
         let mut room = [WideSlot::Free; 2];
         let mut a = DirectArena::<Short, u64, _>::new(SlabStack::with_min_capacity(&mut room, 1));
         assert!(rt;
             a.transfer_reallocating(SeasonGen { season: 9 }, &mut source, &mut trail)
-                == Err(ReallocationError::AllocError)
+                == Err(ArenaReallocationError::Stack(ReallocationError::AllocError))
         );
         assert!(rt; book.slots() == 2 && book.len() == 1 && book.get(on(0, 2)) == Some(7));
         assert!(rt; a.slots() == 0 && a.capacity() == 1 && trail.old == 0);
