@@ -4,4 +4,5 @@ pub mod Cut
 pub mod Drops
 pub mod Gathered
 pub mod Kept
+pub mod Recasts
 pub mod Reports

@@ -8,3 +8,4 @@ pub mod compress;
 pub mod copy;
 pub mod edits;
 pub mod point;
+pub mod recast;
