@@ -14,6 +14,7 @@ pub mod edits;
 pub mod ends;
 pub mod find;
 pub mod insert;
+pub mod recast;
 pub mod reserve;
 
 pub use arena::DirectArena;
