@@ -1,5 +1,5 @@
 ghost use Rattle.std.specs.Prelude.{◌≡◌, ◌-◌, length, nat_lt};
-ghost use Rattle.outcome.specs.Outcome.{done, of_limit, of_arena_reallocation};
+ghost use Rattle.outcome.specs.Outcome.{done, of_limit, of_arena_reallocation, beyond_indices};
 ghost use Rattle.stack.specs.Limits.{limit_answer, Bounded};
 ghost use Rattle.history.specs.Slots.{trimmed};
 ghost use Rattle.history.specs.Calls.{trim, reallocate, limit, entry, Step};
@@ -42,6 +42,7 @@ impl<P: Ptr, V: Copy, S: NonZeroInxGenericStack<Slot = DirectSlot<P::Gen, V>>> D
     ) -> Result<(), ArenaReallocationError>
         ensures step { Step P.Gen.eq (entry (reallocate min_capacity) (of_arena_reallocation result)) (S.list self.old) (S.list self.new) }
         ensures grown { Reallocated S.regrown (nat_lt P.Inx.largest min_capacity) (S.config self.old) (length (S.list self.new)) min_capacity (of_arena_reallocation result) (S.config self.new) }
+        ensures whose { beyond_indices result ≡ nat_lt P.Inx.largest min_capacity }
     {
         self.trim_to(min_capacity);
         if min_capacity > P::Inx::max_index() {

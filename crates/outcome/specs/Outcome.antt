@@ -1,6 +1,6 @@
 -- What the rules say of an answer, whatever its type in the code: done with these values, done with a generation
 -- counter used up, or refused under this number.
-use Rattle.std.specs.Prelude.{ℕ, Some, None, Ok, Err, Option, Result}
+use Rattle.std.specs.Prelude.{ℕ, Bool, true, false, Some, None, Ok, Err, Option, Result}
 use Rattle.outcome.specs.declared.errors.NotWithinCapacityError.{NotWithinCapacityError}
 use Rattle.outcome.specs.declared.errors.MaxCapacityReductionError.{MaxCapacityReductionError}
 use Rattle.outcome.specs.declared.errors.ReallocationError.{ReallocationError}
@@ -60,6 +60,12 @@ abbrev pub of_arena_reallocation : Result (Unit {0}) ArenaReallocationError → 
 of_arena_reallocation (Ok u) = done u
 of_arena_reallocation (Err (arena_realloc.Stack e)) = of_reallocation (Err e)
 of_arena_reallocation (Err arena_realloc.BeyondIndices) = refused 7
+
+-- whether the fault is the arena's own: it has no index for so many slots
+abbrev pub beyond_indices : Result (Unit {0}) ArenaReallocationError → Bool
+beyond_indices (Ok u) = false
+beyond_indices (Err (arena_realloc.Stack e)) = false
+beyond_indices (Err arena_realloc.BeyondIndices) = true
 
 -- a directory that is given no room for a report 10
 abbrev pub of_directory : Result (Unit {0}) DirectoryError → Outcome (Unit {0})
