@@ -1,11 +1,11 @@
 -- Directories: arenas of pointers that hold the reports of compressions. A pointer is seen as its index's number and its
 -- generation (`view`); `point` makes the pointer of such a pair.
-use Rattle.std.specs.Prelude.{◌≡◌, Bool, true, List, [], ◌∷◌, ◌++◌, map, Some, None, Option}
+use Rattle.std.specs.Prelude.{◌≡◌, Bool, true, false, List, [], ◌∷◌, ◌++◌, map, Some, None, Option}
 use Rattle.history.specs.Slots.{Slots, Ptr, Held, ptr}
 use Rattle.history.specs.Records.{found}
 use Rattle.history.specs.Mapped.{Pair, records}
 use Rattle.history.specs.Recasts.{join_each}
-use Rattle.history.specs.Calls.{insert, clear, Entry}
+use Rattle.history.specs.Calls.{insert, clear, Entry, Through}
 
 -- the slots of a directory
 abbrev pub Directory : Type 0 → Type 0 → Type 0
@@ -56,3 +56,14 @@ entered point (p ∷ ps) h = entered point ps (record { call = insert p.old (poi
 -- A directory's filling, as calls of its own history: a clear, and the insertions.
 abbrev pub filling : {G P : Type 0} → (Ptr G → P) → List (Pair G G) → List (Entry G P)
 filling point ps = entered point ps (record { call = clear; accepted = true } ∷ [])
+
+module _ {G P : Type 0} where
+  -- what a compression makes of a directory shown: refused, it changes nothing
+  abbrev pub Filled : (G → G → Bool) → (Ptr G → P) → Bool → List (Pair G G) → (d e : Directory G P) → Type 0
+  Filled alike point true ps d e = Through alike d (filling point ps) e
+  Filled alike point false ps d e = e ≡ d
+
+  -- and then it holds just the report
+  abbrev pub HoldsAfter : (P → Ptr G) → Bool → List (Pair G G) → Directory G P → Type 0
+  HoldsAfter view true ps e = Holds view e ps
+  HoldsAfter view false ps e = Unit {0}

@@ -72,10 +72,10 @@ abbrev pub of_directory : Result (Unit {0}) DirectoryError → Outcome (Unit {0}
 of_directory (Ok u) = done u
 of_directory (Err e) = refused 10
 
--- what the directory's arena answered when asked for that room
-abbrev pub room_of : Result (Unit {0}) DirectoryError → Outcome (Unit {0})
-room_of (Ok u) = done u
-room_of (Err (directory.NoRoom e)) = of_arena_reallocation (Err e)
+-- what the directory's arena answered when it was asked for that room
+abbrev pub carried : Result (Unit {0}) DirectoryError → Result (Unit {0}) ArenaReallocationError
+carried (Ok u) = Ok u
+carried (Err (directory.NoRoom e)) = Err e
 
 -- a pointer that is not held 9
 abbrev pub of_recast : {X V : Type 0} → Result X (NotHeldError V) → Outcome X
