@@ -106,7 +106,7 @@ behind_agrees zero i m g v e h (full a) = absurd (omega arith)
 behind_agrees (suc n) i m g v e h (free a) = let b = behind_agrees n i m g v (omega arith) (omega arith) a in (free b.0, ap suc b.1)
 behind_agrees (suc n) i m g v e h (full a) = let b = behind_agrees n i m g v (omega arith) (omega arith) a in (full b.0, ap suc b.1)
 
-write_behind : {G V : Type 0} (x : Held G V) (i : ℕ) (s : Slots G V) (ls : List (Line G V)) → length s < x.slot → Agrees G V 1 s ls →
+pub write_behind : {G V : Type 0} (x : Held G V) (i : ℕ) (s : Slots G V) (ls : List (Line G V)) → length s < x.slot → Agrees G V 1 s ls →
     (Agrees G V 1 (write x.slot (Allocated x.gen x.value) s) (ls ++ record { number = i; stand = x } ∷ [])) × (length (write x.slot (Allocated x.gen x.value) s) ≡ x.slot)
 write_behind {G} {V} x i s ls h a = go x.slot refl
   where
@@ -114,7 +114,7 @@ write_behind {G} {V} x i s ls h a = go x.slot refl
     go zero e = absurd (omega arith)
     go (suc n) e = behind_agrees n i x.slot x.gen x.value (omega arith) (omega arith) a
 
-settle_agrees : {G V : Type 0} (hs : List (Held G V)) (i : ℕ) (s : Slots G V) (ls : List (Line G V)) → rising (length s) hs ≡ true → Agrees G V 1 s ls → Agrees G V 1 (settle s hs) (ls ++ numbered i hs)
+pub settle_agrees : {G V : Type 0} (hs : List (Held G V)) (i : ℕ) (s : Slots G V) (ls : List (Line G V)) → rising (length s) hs ≡ true → Agrees G V 1 s ls → Agrees G V 1 (settle s hs) (ls ++ numbered i hs)
 settle_agrees [] i s ls h a = rw (append-nil ls) a
 settle_agrees (x ∷ hs) i s ls h a =
     let b = write_behind x i s ls (grind arith) a in

@@ -4,3 +4,4 @@ pub mod Moves
 pub mod Runs
 pub mod Joins
 pub mod Spans
+pub mod Fills

@@ -220,6 +220,9 @@ module _ {G P : Type 0} (alike : G → G → Bool) (same : (a b : G) → alike a
       let r = in_map (λ (h : Held G P). record { old = ptr h; new = view h.value }) (record { old = view p; new = x }) (records d) j in
       (r.0.value, recast_under p r.0 r.1 (ap (λ (y : Pair G G). y.old) r.2), sym (ap (λ (y : Pair G G). y.new) r.2))
 
+stood_as : {G V : Type 0} (h : List (Entry G V)) (m n : ℕ) → m ≡ n → Stood h m → Stood h n
+stood_as h m n e y = (y.0, y.1, y.2 ∙ e)
+
 module _ {G V P : Type 0} where
   -- what stands after the last of the spans stood at its compression, and the other way round
   last_on : (xs : List (Span G V P)) (x : Span G V P) (h : List (Entry G V)) (n : ℕ) → Stood (up_to_last x xs h) n → Stood (all_ended (x ∷ xs) h) n
@@ -241,7 +244,7 @@ module _ {G V P : Type 0} where
       let g = grown alike (record { call = compress x.mapping; accepted = true } ∷ x.calls) h in
       let a = stood_first alike xs (ended x h) n y (omega (arith, b, g)) in
       let c = stood_before alike (record { call = compress x.mapping; accepted = true } ∷ x.calls) h a.0 a.1 (omega (arith, b, a.2)) in
-      (c.0, c.1, c.2 ∙ a.2)
+      stood_as h a.0.number n a.2 c
 
   -- the history before spans led to slots too
   led : (alike : G → G → Bool) (xs : List (Span G V P)) (h : List (Entry G V)) (s : Slots G V) → Leads alike (all_ended xs h) s → (t : Slots G V) × Leads alike h t

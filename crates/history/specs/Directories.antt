@@ -3,7 +3,7 @@
 use Rattle.std.specs.Prelude.{◌≡◌, Bool, true, false, List, [], ◌∷◌, ◌++◌, map, Some, None, Option}
 use Rattle.history.specs.Slots.{Slots, Ptr, Held, ptr}
 use Rattle.history.specs.Records.{found}
-use Rattle.history.specs.Mapped.{Pair, records}
+use Rattle.history.specs.Mapped.{Pair, records, settle}
 use Rattle.history.specs.Recasts.{join_each}
 use Rattle.history.specs.Calls.{insert, clear, Entry, Through}
 
@@ -56,6 +56,14 @@ entered point (p ∷ ps) h = entered point ps (record { call = insert p.old (poi
 -- A directory's filling, as calls of its own history: a clear, and the insertions.
 abbrev pub filling : {G P : Type 0} → (Ptr G → P) → List (Pair G G) → List (Entry G P)
 filling point ps = entered point ps (record { call = clear; accepted = true } ∷ [])
+
+-- the records that a report makes in a directory: at each old pointer the new one
+abbrev pub report_records : {G P : Type 0} → (Ptr G → P) → List (Pair G G) → List (Held G P)
+report_records point ps = map (λ p. record { slot = p.old.slot; gen = p.old.gen; value = point p.new }) ps
+
+-- what a filling leaves, whatever was there
+abbrev pub filled_slots : {G P : Type 0} → (Ptr G → P) → List (Pair G G) → Directory G P
+filled_slots point ps = settle [] (report_records point ps)
 
 module _ {G P : Type 0} where
   -- what a compression makes of a directory shown: refused, it changes nothing

@@ -1,4 +1,3 @@
-use Rattle.std.proofs.Common.{rules, ◌≡◌, true}
 use Rattle.history.proofs.Spans.{promise}
 use Rattle.directory.proofs.find.find.Goals as goal
 
