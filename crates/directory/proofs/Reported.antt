@@ -1,11 +1,15 @@
 -- What a directory takes in at a filling is the report.
-use Rattle.std.proofs.Common.{◌≡◌, ℕ, suc, ◌+◌, ◌<◌, ◌≤◌, Bool, true, cond, List, [], ◌∷◌, length, Some, Option, refl, ap, ◌∙◌, inl, inr, arith}
+use Rattle.std.proofs.Common.{◌≡◌, ℕ, suc, ◌+◌, ◌<◌, ◌≤◌, Bool, true, false, cond, nat_lt, Result, Ok, Err, List, [], ◌∷◌, length, Some, Option, refl, ap, ◌∙◌, inl, inr, arith}
 use Rattle.kinds.specs.Places.{in_range}
+use Rattle.outcome.specs.Outcome.{of_arena_reallocation, beyond_indices}
+use Rattle.outcome.specs.declared.errors.ReallocationError.TheVariants.{BeyondMaxCapacity, AllocError}
+use Rattle.outcome.specs.declared.errors.ArenaReallocationError.{ArenaReallocationError}
+use Rattle.outcome.specs.declared.errors.ArenaReallocationError.TheVariants.{Stack, BeyondIndices}
 use Rattle.history.specs.Slots.{Slots, Ptr, Held}
 use Rattle.history.specs.Mapped.{Pair, stays, moving, pairs, records, rising, report}
 use Rattle.history.specs.Laws.{In}
-use Rattle.history.specs.Calls.{bring, Step, Through}
-use Rattle.history.specs.Directories.{Holds, filling, report_records, filled_slots}
+use Rattle.history.specs.Calls.{bring, went, Step, Through}
+use Rattle.history.specs.Directories.{Holds, filling, Filled, HoldsAfter, report_records, filled_slots}
 use Rattle.history.proofs.Fills.{filling_leads, filling_holds}
 use Rattle.bulk.specs.Given.{point}
 use Rattle.bulk.specs.Brought.{brought, last_slot}
@@ -55,7 +59,7 @@ module _ {I G P V : Type 0} (largest : ℕ) (indexed : ℕ → I) (made : I → 
       rw (r, made_mark (indexed h.slot) h.gen, ← e) (ap (λ (t : List (Held G P)). record { slot = h.slot; gen = h.gen; value = made (indexed j) h.gen } ∷ t) b)
 
   -- what came into a directory by a clone with that mapper, came by a filling
-  pub came_filled : (alike : G → G → Bool) (s : Slots G V) (d e : Slots G P) (m : ℕ) (b : Bool) → m ≡ 0 → b ≡ true → last_slot (records s) ≤ largest →
+  came_filled : (alike : G → G → Bool) (s : Slots G V) (d e : Slots G P) (m : ℕ) (b : Bool) → m ≡ 0 → b ≡ true → last_slot (records s) ≤ largest →
       Step alike (record { call = bring (brought next_moved new_pointer (point indexed made) (point indexed made) stays 1 m (records s)); accepted = b }) d e →
       (e ≡ filled_slots (point indexed made) (report (records s))) × Through alike d (filling (point indexed made) (report (records s))) e
   came_filled alike s d e m b z w l x =
@@ -64,10 +68,26 @@ module _ {I G P V : Type 0} (largest : ℕ) (indexed : ℕ → I) (made : I → 
       (f, rw f (filling_leads alike (point indexed made) d (report (records s)) (report_rises (point indexed made) 0 1 (records s) (records_rise 0 s))))
 
   module _ (number : I → Option ℕ) (index : P → I) (made_index : (i : I) (g : G) → index (made i g) ≡ i) (there : (n : ℕ) → 1 ≤ n → n ≤ largest → number (indexed n) ≡ Some n) where
-    pub filled_holds : (s : Slots G V) → last_slot (records s) ≤ largest → Holds (cited number index mark) (filled_slots (point indexed made) (report (records s))) (report (records s))
+    filled_holds : (s : Slots G V) → last_slot (records s) ≤ largest → Holds (cited number index mark) (filled_slots (point indexed made) (report (records s))) (report (records s))
     filled_holds s l = filling_holds (cited number index mark) (point indexed made) (report (records s)) (report_rises (point indexed made) 0 1 (records s) (records_rise 0 s)) same
       where
         same : (p : Pair G G) → In p (report (records s)) → cited number index mark (point indexed made p.new) ≡ p.new
         same p i =
             let b = new_within 1 largest (records s) (omega (arith, few_records s largest l)) p i in
             rw (made_index (indexed p.new.slot) p.new.gen, made_mark (indexed p.new.slot) p.new.gen, there p.new.slot b.0 b.1) refl
+
+    -- the directory after such a clone, which may have been refused
+    pub filled_or_same : (alike : G → G → Bool) (s : Slots G V) (d e : Slots G P) (m : ℕ) (b : Bool) → m ≡ 0 → (b ≡ true → last_slot (records s) ≤ largest) →
+        Step alike (record { call = bring (brought next_moved new_pointer (point indexed made) (point indexed made) stays 1 m (records s)); accepted = b }) d e →
+        Filled alike (point indexed made) b (report (records s)) d e × HoldsAfter (cited number index mark) b (report (records s)) e
+    filled_or_same alike s d e m false z l x = (x.slots, tt)
+    filled_or_same alike s d e m true z l x =
+        let f = came_filled alike s d e m true z refl (l refl) x in
+        (f.1, rw f.0 (filled_holds s (l refl)))
+
+-- room is given only within the indices
+pub room_within : (r : Result (Unit {0}) ArenaReallocationError) (n m : ℕ) → beyond_indices r ≡ nat_lt m n → went (of_arena_reallocation r) ≡ true → n ≤ m
+room_within (Ok u) n m e w = grind arith
+room_within (Err (Stack BeyondMaxCapacity)) n m e w = cc
+room_within (Err (Stack AllocError)) n m e w = cc
+room_within (Err BeyondIndices) n m e w = cc

@@ -13,7 +13,7 @@ ghost use Rattle.arena.specs.Reserve.{MadeRoom};
 use arena::DirectArena;
 use kinds::{DirectSlot, Ptr, PtrInx};
 use mapper::Mapper;
-use outcome::DirectoryError;
+use outcome::{ArenaReallocationError, DirectoryError};
 use stack::NonZeroInxGenericStack;
 use std::marker::{Model, PhantomData};
 
@@ -64,6 +64,24 @@ fn new_pointers<P: Ptr>() -> NewPointers<P>
     }
 }
 
+// Fills a directory with the report of the compression that the arena is about to get.
+fn fill<
+    P: Ptr,
+    V: Copy,
+    S: NonZeroInxGenericStack<Slot = DirectSlot<P::Gen, V>>,
+    D: NonZeroInxGenericStack<Slot = DirectSlot<P::Gen, P>>,
+>(
+    directory: &mut DirectArena<P, P, D>,
+    arena: &DirectArena<P, V, S>,
+) -> Result<(), ArenaReallocationError>
+    ensures filled { Filled P.Gen.eq (point P.Inx.indexed P.made) (went (of_arena_reallocation result)) (report (records (S.list arena.now))) (D.list directory.old) (D.list directory.new) }
+    ensures holds { HoldsAfter (cited P.Inx.number P.index P.mark) (went (of_arena_reallocation result)) (report (records (S.list arena.now))) (D.list directory.new) }
+    ensures grown { MadeRoom D.regrown D.room P.Inx.largest (length (D.list directory.old)) (last_slot (records (S.list arena.now))) (of_arena_reallocation result) (D.config directory.old) (D.config directory.new) }
+    ensures whose { beyond_indices result ≡ nat_lt P.Inx.largest (last_slot (records (S.list arena.now))) }
+{
+    directory.clone_from_with(arena, &mut new_pointers())
+}
+
 /// Compresses an arena, and fills the directory with the report: at each old pointer the new one. Where the directory
 /// has no room for the last record's slot, and is given none, neither is changed.
 pub fn compress_into<
@@ -85,7 +103,7 @@ pub fn compress_into<
     ensures mapper { F.state mapper.new ≡ cond (went (of_directory result)) (left F.next F.mapped P.Inx.indexed P.made (F.state mapper.old) (shown_by (report (records (S.list arena.old))) (records (S.list arena.old)))) (F.state mapper.old) }
     ensures kept { S.config arena.new ≡ S.config arena.old }
 {
-    directory.clone_from_with(arena, &mut new_pointers())?;
+    fill(directory, arena)?;
     let _ = arena.compress_with(mapper);
     Ok(())
 }
