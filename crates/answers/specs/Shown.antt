@@ -3,7 +3,7 @@ use Rattle.std.specs.Prelude.{ℕ, List, [], ◌∷◌, ◌++◌, codes, decimal
 use Rattle.answers.specs.Refusals.{of_verdict}
 use Rattle.answers.specs.declared.answer.Answer.{Answer}
 use Rattle.answers.specs.declared.answer.Concerned.{Concerned}
-use Rattle.answers.specs.declared.answer.Concerned.TheVariants.{Record, Value, Nothing}
+use Rattle.answers.specs.declared.answer.Concerned.TheVariants.{Record, Pointer, Value, Nothing}
 use Rattle.answers.specs.declared.answer.Tally.{Tally}
 use Rattle.outcome.specs.Outcome.{Outcome, done, overflowed, refused}
 
@@ -17,6 +17,7 @@ blank = codes "-"
 
 abbrev pub concerned_text : Concerned → List ℕ
 concerned_text (Record s g v) = spaced (decimal s) (spaced (decimal g) (decimal v))
+concerned_text (Pointer s g) = spaced (decimal s) (spaced (decimal g) blank)
 concerned_text (Value v) = spaced blank (spaced blank (decimal v))
 concerned_text Nothing = spaced blank (spaced blank blank)
 

@@ -13,6 +13,10 @@ pub enum Concerned {
         generation: u32,
         value: u32,
     },
+    Pointer {
+        slot: u16,
+        generation: u32,
+    },
     Value(u32),
     Nothing,
 }
@@ -42,6 +46,7 @@ impl fmt::Display for Concerned {
                 generation,
                 value,
             } => write!(f, "{slot} {generation} {value}"),
+            Concerned::Pointer { slot, generation } => write!(f, "{slot} {generation} -"),
             Concerned::Value(value) => write!(f, "- - {value}"),
             Concerned::Nothing => write!(f, "- - -"),
         }

@@ -9,7 +9,8 @@ use outcome::{
 };
 use std::fmt;
 
-/// Why a call was refused. No report shows 4 or 5: a script asks for no list edit.
+/// Why a call was refused. No report shows 4 or 5: a script asks for no list edit. The register's own shows no 10
+/// either, since its directory has room for each of its slots.
 #[derive(Clone, Copy, Debug, PartialEq, Eq)]
 pub enum Refusal {
     NotWithinCapacity = 1,

@@ -17,7 +17,7 @@ use Rattle.lines.specs.declared.call.Call.TheVariants as call
 use Rattle.lines.specs.declared.error.LineError.{LineError}
 use Rattle.lines.specs.declared.error.LineError.TheVariants.{Unfit}
 use Rattle.lines.specs.declared.verb.Verb.{Verb}
-use Rattle.lines.specs.declared.verb.Verb.TheVariants.{Insert, Edit, Get, Remove, Trim, Reserve, Limit, Clear, Compress}
+use Rattle.lines.specs.declared.verb.Verb.TheVariants.{Insert, Edit, Get, Remove, Trim, Reserve, Limit, Clear, Compress, Recast}
 use Rattle.text.proofs.Exact.{own, never, numeral_reads, all_decimals}
 use Rattle.lines.proofs.Names.{verb_named}
 use Rattle.lines.proofs.OneText.{shown_if}
@@ -63,6 +63,7 @@ solid_name Reserve = (refl, (refl, (refl, (refl, (refl, (refl, (refl, tt)))))))
 solid_name Limit = (refl, (refl, (refl, (refl, (refl, tt)))))
 solid_name Clear = (refl, (refl, (refl, (refl, (refl, tt)))))
 solid_name Compress = (refl, (refl, (refl, (refl, (refl, (refl, (refl, (refl, tt))))))))
+solid_name Recast = (refl, (refl, (refl, (refl, (refl, (refl, tt))))))
 
 length_name : (v : Verb) → length (name_of v) ≤ 8
 length_name Insert = omega arith
@@ -74,6 +75,7 @@ length_name Reserve = omega arith
 length_name Limit = omega arith
 length_name Clear = omega arith
 length_name Compress = omega arith
+length_name Recast = omega arith
 
 abbrev given : Bool → ℕ → Field
 given true n = Ok (Some n)
@@ -100,6 +102,7 @@ asked_given Reserve s g v = refl
 asked_given Limit s g v = refl
 asked_given Clear s g v = refl
 asked_given Compress s g v = refl
+asked_given Recast s g v = refl
 
 length_row : (a b c d : List ℕ) → length (row a b c d) ≡ length a + (1 + (length b + (1 + (length c + (1 + length d)))))
 length_row a b c d = omega (arith, length-append a (32 ∷ (b ++ (32 ∷ (c ++ (32 ∷ d))))), length-append b (32 ∷ (c ++ (32 ∷ d))), length-append c (32 ∷ d))
@@ -131,6 +134,7 @@ each_text (call.Reserve n) h = back Reserve 0 0 n (omega arith) (omega arith) h
 each_text (call.Limit n) h = back Limit 0 0 n (omega arith) (omega arith) h
 each_text call.Clear h = back Clear 0 0 0 (omega arith) (omega arith) (omega arith)
 each_text call.Compress h = back Compress 0 0 0 (omega arith) (omega arith) (omega arith)
+each_text (call.Recast s g) h = back Recast s g 0 h.0 h.1 (omega arith)
 
 pub each_asks : {line : List ℕ} {r : Result Call LineError} → r ≡ meaning line → (c : Call) → InRange c → line ≡ call_text c → r ≡ Ok c
 each_asks is c h e = is ∙ ap meaning e ∙ each_text c h

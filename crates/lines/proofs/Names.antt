@@ -5,7 +5,7 @@ use Rattle.std.proofs.lemmas.List.{drop_more, drop_all}
 use Rattle.lines.specs.Verb.{name_of, verb_of}
 use Rattle.lines.specs.declared.error.LineError.TheVariants.{Unknown}
 use Rattle.lines.specs.declared.verb.Verb.{Verb}
-use Rattle.lines.specs.declared.verb.Verb.TheVariants.{Insert, Edit, Get, Remove, Trim, Reserve, Limit, Clear, Compress}
+use Rattle.lines.specs.declared.verb.Verb.TheVariants.{Insert, Edit, Get, Remove, Trim, Reserve, Limit, Clear, Compress, Recast}
 
 -- from its i-th byte on, xs has just these bytes
 abbrev pub ReadsFrom : List ℕ → ℕ → List ℕ → Type 0
@@ -32,6 +32,7 @@ verb_named Reserve = refl
 verb_named Limit = refl
 verb_named Clear = refl
 verb_named Compress = refl
+verb_named Recast = refl
 
 pub spelled : (v : Verb) (name : List ℕ) → ReadsFrom name 0 (name_of v) → Ok v ≡ ok_or (verb_of name) Unknown
 spelled v name h = sym (ap (λ n. ok_or (verb_of n) Unknown) (reads name 0 (name_of v) h) ∙ ap (λ o. ok_or o Unknown) (verb_named v))

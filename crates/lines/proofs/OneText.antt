@@ -14,7 +14,7 @@ use Rattle.lines.specs.declared.call.Call.{Call}
 use Rattle.lines.specs.declared.error.LineError.{LineError}
 use Rattle.lines.specs.declared.error.LineError.TheVariants.{Unknown, Unfit}
 use Rattle.lines.specs.declared.verb.Verb.{Verb}
-use Rattle.lines.specs.declared.verb.Verb.TheVariants.{Insert, Edit, Get, Remove, Trim, Reserve, Limit, Clear, Compress}
+use Rattle.lines.specs.declared.verb.Verb.TheVariants.{Insert, Edit, Get, Remove, Trim, Reserve, Limit, Clear, Compress, Recast}
 use Rattle.text.proofs.Exact.{never, only_decimals}
 use Rattle.text.proofs.Splits.{some_part}
 
@@ -82,6 +82,7 @@ call_text_lem Reserve s g v = refl
 call_text_lem Limit s g v = refl
 call_text_lem Clear s g v = refl
 call_text_lem Compress s g v = refl
+call_text_lem Recast s g v = refl
 
 call_range : (verb : Verb) (s g v : ℕ) → s ≤ 65535 → g ≤ 4294967295 → v ≤ 4294967295 → InRange (call_at verb s g v)
 call_range Insert s g v p q r = (p, q, r)
@@ -93,6 +94,7 @@ call_range Reserve s g v p q r = r
 call_range Limit s g v p q r = r
 call_range Clear s g v p q r = tt
 call_range Compress s g v p q r = tt
+call_range Recast s g v p q r = (p, q)
 
 asked_back : (verb : Verb) (s g v : Field) (c : Call) → asked verb s g v ≡ Some c → (fits (wants_pointer verb) s ≡ true) × (fits (wants_pointer verb) g ≡ true) × (fits (wants_value verb) v ≡ true) × (call_at verb (number_in s) (number_in g) (number_in v) ≡ c)
 asked_back verb s g v c e = go (fits (wants_pointer verb) s && (fits (wants_pointer verb) g && fits (wants_value verb) v)) refl e

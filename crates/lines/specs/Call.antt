@@ -4,7 +4,7 @@ use Rattle.lines.specs.declared.call.Call.{Call}
 use Rattle.lines.specs.declared.call.Call.TheVariants as call
 use Rattle.text.specs.declared.number.FieldError.{FieldError}
 use Rattle.lines.specs.declared.verb.Verb.{Verb}
-use Rattle.lines.specs.declared.verb.Verb.TheVariants.{Insert, Edit, Get, Remove, Trim, Reserve, Limit, Clear, Compress}
+use Rattle.lines.specs.declared.verb.Verb.TheVariants.{Insert, Edit, Get, Remove, Trim, Reserve, Limit, Clear, Compress, Recast}
 
 -- a call wants a pointer, that is a slot and a generation
 abbrev pub wants_pointer : Verb → Bool
@@ -17,6 +17,7 @@ wants_pointer Reserve = false
 wants_pointer Limit = false
 wants_pointer Clear = false
 wants_pointer Compress = false
+wants_pointer Recast = true
 
 abbrev pub wants_value : Verb → Bool
 wants_value Insert = true
@@ -28,6 +29,7 @@ wants_value Reserve = true
 wants_value Limit = true
 wants_value Clear = false
 wants_value Compress = false
+wants_value Recast = false
 
 -- what a field holds: a number, a blank, or neither
 abbrev pub Field : Type 0
@@ -58,6 +60,7 @@ call_at Reserve s g v = call.Reserve v
 call_at Limit s g v = call.Limit v
 call_at Clear s g v = call.Clear
 call_at Compress s g v = call.Compress
+call_at Recast s g v = call.Recast s g
 
 abbrev pub asked : Verb → Field → Field → Field → Option Call
 asked verb s g v =

@@ -1,7 +1,7 @@
 -- The one text of a call.
 use Rattle.std.specs.Prelude.{ℕ, ◌≤◌, List, ◌∷◌, ◌++◌, codes, decimal}
 use Rattle.lines.specs.declared.call.Call.{Call}
-use Rattle.lines.specs.declared.call.Call.TheVariants.{Insert, Edit, Get, Remove, Trim, Reserve, Limit, Clear, Compress}
+use Rattle.lines.specs.declared.call.Call.TheVariants.{Insert, Edit, Get, Remove, Trim, Reserve, Limit, Clear, Compress, Recast}
 
 -- four fields, one space between
 abbrev pub row : List ℕ → List ℕ → List ℕ → List ℕ → List ℕ
@@ -20,6 +20,7 @@ call_text (Reserve n) = row (codes "reserve") blank blank (decimal n)
 call_text (Limit n) = row (codes "limit") blank blank (decimal n)
 call_text Clear = row (codes "clear") blank blank blank
 call_text Compress = row (codes "compress") blank blank blank
+call_text (Recast s g) = row (codes "recast") (decimal s) (decimal g) blank
 
 -- slots have 16 bits, generations and values 32
 abbrev pub InRange : Call → Type 0
@@ -32,3 +33,4 @@ InRange (Reserve n) = n ≤ 4294967295
 InRange (Limit n) = n ≤ 4294967295
 InRange Clear = Unit {0}
 InRange Compress = Unit {0}
+InRange (Recast s g) = (s ≤ 65535) × (g ≤ 4294967295)

@@ -2,7 +2,7 @@
 use Rattle.std.specs.Prelude.{ℕ, cond, List, [], ◌∷◌, Some, None, codes, Option}
 use Rattle.std.specs.Str.{bytes_eq}
 use Rattle.lines.specs.declared.verb.Verb.{Verb}
-use Rattle.lines.specs.declared.verb.Verb.TheVariants.{Insert, Edit, Get, Remove, Trim, Reserve, Limit, Clear, Compress}
+use Rattle.lines.specs.declared.verb.Verb.TheVariants.{Insert, Edit, Get, Remove, Trim, Reserve, Limit, Clear, Compress, Recast}
 
 abbrev pub name_of : Verb → List ℕ
 name_of Insert = codes "insert"
@@ -14,9 +14,10 @@ name_of Reserve = codes "reserve"
 name_of Limit = codes "limit"
 name_of Clear = codes "clear"
 name_of Compress = codes "compress"
+name_of Recast = codes "recast"
 
 abbrev pub verbs : List Verb
-verbs = Insert ∷ Edit ∷ Get ∷ Remove ∷ Trim ∷ Reserve ∷ Limit ∷ Clear ∷ Compress ∷ []
+verbs = Insert ∷ Edit ∷ Get ∷ Remove ∷ Trim ∷ Reserve ∷ Limit ∷ Clear ∷ Compress ∷ Recast ∷ []
 
 -- the one of these calls that has the name
 abbrev pub named : List ℕ → List Verb → Option Verb

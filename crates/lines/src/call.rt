@@ -36,6 +36,10 @@ pub enum Call {
     },
     Clear,
     Compress,
+    Recast {
+        slot: u16,
+        generation: u32,
+    },
 }
 
 /// None where a wanted field is blank, or any other holds a number.
@@ -67,6 +71,9 @@ pub fn call_of(
         (Verb::Limit, None, None, Some(limit)) => Some(Call::Limit { limit }),
         (Verb::Clear, None, None, None) => Some(Call::Clear),
         (Verb::Compress, None, None, None) => Some(Call::Compress),
+        (Verb::Recast, Some(slot), Some(generation), None) => {
+            Some(Call::Recast { slot, generation })
+        }
         _ => None,
     }
 }

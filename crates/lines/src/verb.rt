@@ -18,6 +18,7 @@ pub enum Verb {
     Limit,
     Clear,
     Compress,
+    Recast,
 }
 
 /// `Unknown` for a name that no call has.
@@ -37,6 +38,7 @@ impl TryFrom<&[u8]> for Verb {
             b"limit" => Ok(Verb::Limit),
             b"clear" => Ok(Verb::Clear),
             b"compress" => Ok(Verb::Compress),
+            b"recast" => Ok(Verb::Recast),
             _ => Err(LineError::Unknown),
         }
     }

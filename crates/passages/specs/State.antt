@@ -1,8 +1,10 @@
--- A register: an arena of short indices, season numbers and 32-bit values over a limited slab, and the state that its
--- answers depend on.
+-- A register, which is an arena of short indices, season numbers and 32-bit values over a limited slab, the directory of
+-- its latest compression, and the state that answers depend on.
 use Rattle.std.specs.Prelude.{[], ℕ, min, length}
 use Rattle.answers.specs.declared.answer.Tally.{Tally}
 use Rattle.arena.specs.Answers.{cited}
+use Rattle.bulk.specs.Given.{point}
+use Rattle.history.specs.Directories.{Directory}
 use Rattle.history.specs.Slots.{Slots, Ptr, count}
 use Rattle.kinds.specs.Kinds.{short_number}
 use Rattle.kinds.specs.declared.generation.SeasonGen.{SeasonGen}
@@ -11,29 +13,54 @@ use Rattle.kinds.specs.declared.pointer.PtrOf.{PtrOf}
 use Rattle.kinds.specs.declared.slot.DirectSlot.{DirectSlot}
 use Rattle.limited.specs.declared.limited.LimitedStack.{LimitedStack}
 use Rattle.slab_stack.specs.Slab.{slab_list, slab_lent}
+use Rattle.stack.specs.Fixed.{fixed_list, fixed_lent}
 use Rattle.stack.specs.Slots.{counted}
+use Rattle.stack.specs.declared.fixed.FixedStack.{FixedStack}
 use Rattle.slab_stack.specs.declared.slab.SlabStack.{SlabStack}
 
--- The slots, the slab's capacity, how many slots are lent to it, and the limit.
-pub record State : Type 0 where
+abbrev pub Pointer : Type 0
+Pointer = PtrOf ShortInx SeasonGen
+
+-- What a register's own calls depend on: its slots, the slab's capacity, how many slots are lent to it, and the limit.
+pub record RegisterState : Type 0 where
   pub slots : Slots SeasonGen ℕ
   pub room : ℕ
   pub lent : ℕ
   pub limit : ℕ
 
-abbrev pub state_of : {N : _} → LimitedStack (SlabStack (DirectSlot SeasonGen ℕ)) (DirectSlot SeasonGen ℕ) N → State
-state_of s = record { slots = slab_list s.below; room = s.below.room; lent = slab_lent s.below; limit = s.limit }
+-- With the latest directory: its slots, and how many are lent to it.
+pub record State : Type 0 where
+  pub register : RegisterState
+  pub latest : Directory SeasonGen Pointer
+  pub latest_room : ℕ
+
+abbrev pub register_of : {N : _} → LimitedStack (SlabStack (DirectSlot SeasonGen ℕ)) (DirectSlot SeasonGen ℕ) N → RegisterState
+register_of r = record { slots = slab_list r.below; room = r.below.room; lent = slab_lent r.below; limit = r.limit }
+
+abbrev pub state_of : {N : _} → LimitedStack (SlabStack (DirectSlot SeasonGen ℕ)) (DirectSlot SeasonGen ℕ) N → FixedStack (DirectSlot SeasonGen Pointer) → State
+state_of r d = record { register = register_of r; latest = fixed_list d; latest_room = fixed_lent d }
 
 -- a new register over so many lent slots
-abbrev pub opened : ℕ → State
+abbrev pub opened : ℕ → RegisterState
 opened lent = record { slots = []; room = min 16 (counted lent); lent = lent; limit = min 16 (counted lent) }
 
-abbrev pub capacity_of : State → ℕ
-capacity_of st = min (min st.limit st.room) 65535
+abbrev pub capacity_of : RegisterState → ℕ
+capacity_of r = min (min r.limit r.room) 65535
 
-abbrev pub tally_of : State → Tally
-tally_of st = record { count = count st.slots; slots = length st.slots; capacity = capacity_of st }
+abbrev pub tally_of : RegisterState → Tally
+tally_of r = record { count = count r.slots; slots = length r.slots; capacity = capacity_of r }
+
+-- the pointer of a number and a season
+abbrev pub short_point : Ptr SeasonGen → Pointer
+short_point = point {P = Pointer} {I = ShortInx} {G = SeasonGen} (λ n. record { raw = n }) (λ i g. record { inx = i; generation = g })
+
+-- and a pointer as its index's number and its season
+abbrev pub short_view : Pointer → Ptr SeasonGen
+short_view = cited {P = Pointer} short_number (λ p. p.inx) (λ p. p.generation)
 
 -- the pointer of a slot field and a generation field
+abbrev pub pointer_at : ℕ → ℕ → Pointer
+pointer_at slot season = record { inx = record { raw = slot }; generation = record { season = season } }
+
 abbrev pub cite : ℕ → ℕ → Ptr SeasonGen
-cite slot season = cited {P = PtrOf ShortInx SeasonGen} short_number (λ p. p.inx) (λ p. p.generation) (record { inx = record { raw = slot }; generation = record { season = season } })
+cite slot season = short_view (pointer_at slot season)

@@ -1,9 +1,11 @@
-//! The register that the programs keep: an arena of short indices, seasons and 32-bit values over a limited slab.
-//! It uses `answers` for the tally of what a register holds, and the crates that such an arena is made of.
-//! It knows nothing of scripts, lines or calls.
+//! The register that the programs keep, an arena of short indices, seasons and 32-bit values over a limited slab; and
+//! the directory of its latest compression.
+//! It uses `answers` for a register's tally and the crates that such arenas are made of; it knows no scripts or calls.
 
 #![tactic(auto)]
 
+pub mod latest;
 pub mod register;
 
+pub use latest::{Directory, PointerSlot, open_directory};
 pub use register::{Pointer, Register, Slot, open, pointer, tally};

@@ -1,5 +1,5 @@
 ghost use Rattle.std.specs.Prelude.{◌≡◌, ◌≤◌, length};
-ghost use Rattle.passages.specs.State.{state_of, opened, tally_of};
+ghost use Rattle.passages.specs.State.{register_of, opened, tally_of, pointer_at};
 
 use answers::answer::Tally;
 use arena::DirectArena;
@@ -18,7 +18,7 @@ const REQUEST: usize = 16;
 
 /// An empty register over the slots that the caller lends.
 pub fn open<'a>(slots: &'a mut [Slot]) -> Register<'a>
-    ensures state { state_of result ≡ opened (length slots.old) }
+    ensures state { register_of result ≡ opened (length slots.old) }
 {
     let slab = SlabStack::with_min_capacity(slots, REQUEST);
     DirectArena::new(LimitedStack::new(slab))
@@ -26,7 +26,7 @@ pub fn open<'a>(slots: &'a mut [Slot]) -> Register<'a>
 
 /// The pointer of a slot and a season.
 pub fn pointer(slot: u16, season: u32) -> Pointer
-    ensures { result ≡ record { inx = record { raw = slot }; generation = record { season = season } } }
+    ensures { result ≡ pointer_at slot season }
 {
     PtrOf {
         inx: ShortInx { raw: slot },
@@ -36,7 +36,7 @@ pub fn pointer(slot: u16, season: u32) -> Pointer
 
 /// What the register holds.
 pub fn tally(register: &Register<'_>) -> Tally
-    ensures held { result ≡ tally_of (state_of register.now) }
+    ensures held { result ≡ tally_of (register_of register.now) }
     ensures indexed { result.slots ≤ 65535 }
 {
     Tally {

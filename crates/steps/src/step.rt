@@ -9,15 +9,16 @@ use answers::answer::{Answer, Concerned};
 use answers::refusal::Refusal;
 use lines::call::Call;
 use lines::error::LineError;
-use passages::register::{Register, tally};
+use passages::{Directory, Register, tally};
 
 // Carries out the call that a line asks for, if it asks for one.
 fn carry_out(
     register: &mut Register<'_>,
+    latest: &mut Directory<'_>,
     line: Result<Call, LineError>,
 ) -> Result<Concerned, Refusal>
-    ensures answer { of_verdict result ≡ (answer_to (state_of register.old) line).verdict }
-    ensures after { state_of register.new ≡ after_line (state_of register.old) line }
+    ensures answer { of_verdict result ≡ (answer_to (state_of register.old latest.old) line).verdict }
+    ensures after { state_of register.new latest.new ≡ after_line (state_of register.old latest.old) line }
 {
     // a match and no table of closures: each call has other fields
     match line? {
@@ -37,16 +38,21 @@ fn carry_out(
         Call::Reserve { request } => calls::reserve(register, request),
         Call::Limit { limit } => calls::limit(register, limit),
         Call::Clear => calls::clear(register),
-        Call::Compress => calls::compress(register),
+        Call::Compress => calls::compress(register, latest),
+        Call::Recast { slot, generation } => calls::recast(latest, slot, generation),
     }
 }
 
 /// Answers one line: what its call answers, or 12 or 13 where it asks for none.
-pub fn step(register: &mut Register<'_>, line: Result<Call, LineError>) -> Answer
-    ensures answer { reply_of result ≡ answer_to (state_of register.old) line }
-    ensures after { state_of register.new ≡ after_line (state_of register.old) line }
+pub fn step(
+    register: &mut Register<'_>,
+    latest: &mut Directory<'_>,
+    line: Result<Call, LineError>,
+) -> Answer
+    ensures answer { reply_of result ≡ answer_to (state_of register.old latest.old) line }
+    ensures after { state_of register.new latest.new ≡ after_line (state_of register.old latest.old) line }
 {
-    let verdict = carry_out(register, line);
+    let verdict = carry_out(register, latest, line);
     Answer {
         verdict,
         tally: tally(register),

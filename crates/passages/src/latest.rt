@@ -1,0 +1,20 @@
+ghost use Rattle.std.specs.Prelude.{◌≡◌, [], length};
+ghost use Rattle.stack.specs.Fixed.{fixed_list, fixed_lent};
+
+use crate::register::Pointer;
+use arena::DirectArena;
+use kinds::{DirectSlot, SeasonGen};
+use stack::FixedStack;
+
+pub type PointerSlot = DirectSlot<SeasonGen, Pointer>;
+
+/// The directory of a register's latest compression: at each pointer of then the pointer that came of it.
+pub type Directory<'a> = DirectArena<Pointer, Pointer, FixedStack<'a, PointerSlot>>;
+
+/// An empty directory over the slots that the caller lends.
+pub fn open_directory<'a>(slots: &'a mut [PointerSlot]) -> Directory<'a>
+    ensures slots { fixed_list result ≡ [] }
+    ensures lent { fixed_lent result ≡ length slots.old }
+{
+    DirectArena::new(FixedStack::new(slots))
+}
