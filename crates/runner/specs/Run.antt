@@ -8,8 +8,8 @@ use Rattle.kinds.specs.declared.generation.SeasonGen.{SeasonGen}
 use Rattle.lines.specs.Meaning.{meaning}
 use Rattle.text.specs.Split.{lines_of}
 use Rattle.outcome.specs.Outcome.{refused}
-use Rattle.passages.specs.State.{State, tally_of}
-use Rattle.steps.specs.Model.{answer_to, after_line, adds}
+use Rattle.passages.specs.State.{Pointer, State, tally_of}
+use Rattle.steps.specs.Model.{answer_to, after_line, adds, latest_adds}
 
 -- what is written of lines, from a state on
 abbrev pub output : State → List (List ℕ) → List ℕ
@@ -21,10 +21,15 @@ abbrev pub after_all : State → List (List ℕ) → State
 after_all st [] = st
 after_all st (l ∷ ls) = after_all (after_line st (meaning l)) ls
 
--- what they add to the history of the register, newest first
+-- what they add to the history of the register's arena, newest first
 abbrev pub adds_all : State → List (List ℕ) → List (Entry SeasonGen ℕ)
 adds_all st [] = []
 adds_all st (l ∷ ls) = adds_all (after_line st (meaning l)) ls ++ adds st (meaning l)
+
+-- and to that of the latest directory
+abbrev pub latest_adds_all : State → List (List ℕ) → List (Entry SeasonGen Pointer)
+latest_adds_all st [] = []
+latest_adds_all st (l ∷ ls) = latest_adds_all (after_line st (meaning l)) ls ++ latest_adds st (meaning l)
 
 abbrev pub after_names : List (List ℕ) → Option (List (List ℕ))
 after_names [] = None
@@ -46,7 +51,7 @@ lines_by None = []
 -- of an input that is no script only 11 is written
 abbrev pub answers_to : State → Option (List (List ℕ)) → List ℕ
 answers_to st (Some ls) = output st ls
-answers_to st None = reply_line (record { verdict = refused 11; tally = tally_of st })
+answers_to st None = reply_line (record { verdict = refused 11; tally = tally_of st.register })
 
 abbrev pub state_by : State → Option (List (List ℕ)) → State
 state_by st (Some ls) = after_all st ls
@@ -55,6 +60,10 @@ state_by st None = st
 abbrev pub adds_by : State → Option (List (List ℕ)) → List (Entry SeasonGen ℕ)
 adds_by st (Some ls) = adds_all st ls
 adds_by st None = []
+
+abbrev pub latest_adds_by : State → Option (List (List ℕ)) → List (Entry SeasonGen Pointer)
+latest_adds_by st (Some ls) = latest_adds_all st ls
+latest_adds_by st None = []
 
 -- the whole report on an input
 abbrev pub report : State → List ℕ → List ℕ

@@ -8,7 +8,7 @@ use answers::answer::Answer;
 use answers::refusal::Refusal;
 use answers::write::add_line;
 use lines::parse::parse;
-use passages::{Register, tally};
+use passages::{Directory, Register, tally};
 use std::alloc::{AllocError, Global};
 use steps::step::step;
 use text::split::{Lines, first_line};
@@ -20,14 +20,15 @@ const LONGEST: usize = 65_536;
 fn add_answers(
     out: &mut String,
     register: &mut Register<'_>,
+    latest: &mut Directory<'_>,
     script: &[u8],
 ) -> Result<(), AllocError>
-    ensures text { OnOk result (string_bytes out.new ≡ string_bytes out.old ++ output (state_of register.old) (lines_of script.now)) }
-    ensures after { OnOk result (state_of register.new ≡ after_all (state_of register.old) (lines_of script.now)) }
-    ensures reached { Reached (state_of register.old) (lines_of script.now) (state_of register.new) }
+    ensures text { OnOk result (string_bytes out.new ≡ string_bytes out.old ++ output (state_of register.old latest.old) (lines_of script.now)) }
+    ensures after { OnOk result (state_of register.new latest.new ≡ after_all (state_of register.old latest.old) (lines_of script.now)) }
+    ensures reached { Reached (state_of register.old latest.old) (lines_of script.now) (state_of register.new latest.new) }
 {
     for line in Lines::new(script) {
-        let answer = step(register, parse(line));
+        let answer = step(register, latest, parse(line));
         add_line(out, answer)?;
     }
     Ok(())
@@ -45,13 +46,18 @@ fn after_names(input: &[u8]) -> Option<&[u8]>
 }
 
 // Adds the answers to `input`, or the one refusal.
-fn add_report(out: &mut String, register: &mut Register<'_>, input: &[u8]) -> Result<(), AllocError>
-    ensures text { OnOk result (string_bytes out.new ≡ string_bytes out.old ++ answers_to (state_of register.old) (script_of input.now)) }
-    ensures after { OnOk result (state_of register.new ≡ state_by (state_of register.old) (script_of input.now)) }
-    ensures reached { Reached (state_of register.old) (lines_by (script_of input.now)) (state_of register.new) }
+fn add_report(
+    out: &mut String,
+    register: &mut Register<'_>,
+    latest: &mut Directory<'_>,
+    input: &[u8],
+) -> Result<(), AllocError>
+    ensures text { OnOk result (string_bytes out.new ≡ string_bytes out.old ++ answers_to (state_of register.old latest.old) (script_of input.now)) }
+    ensures after { OnOk result (state_of register.new latest.new ≡ state_by (state_of register.old latest.old) (script_of input.now)) }
+    ensures reached { Reached (state_of register.old latest.old) (lines_by (script_of input.now)) (state_of register.new latest.new) }
 {
     match after_names(input) {
-        Some(rest) => add_answers(out, register, rest),
+        Some(rest) => add_answers(out, register, latest, rest),
         None => {
             let answer = Answer {
                 verdict: Err(Refusal::NotAScript),
@@ -62,15 +68,20 @@ fn add_report(out: &mut String, register: &mut Register<'_>, input: &[u8]) -> Re
     }
 }
 
-/// The whole report on `input`, with a line for each call; and the register's history goes on by just those calls.
-/// Where memory for the report fails, the first calls were carried out and no other.
-pub fn run(heap: Global, register: &mut Register<'_>, input: &[u8]) -> Result<String, AllocError>
-    ensures text { IfOk result (λ out. string_bytes out ≡ report (state_of register.old) input.now) }
-    ensures after { OnOk result (state_of register.new ≡ state_by (state_of register.old) (script_of input.now)) }
-    ensures led { OnOk result (Led (state_of register.old) (script_of input.now) (state_of register.new)) }
-    ensures stopped { Stopped (state_of register.old) (script_of input.now) (state_of register.new) }
+/// The whole report on `input`, with a line for each call; and the register's history goes on by just those calls, and
+/// that of the latest directory by the fillings of the accepted compressions. Where memory for the report fails, the first calls were carried out and no other.
+pub fn run(
+    heap: Global,
+    register: &mut Register<'_>,
+    latest: &mut Directory<'_>,
+    input: &[u8],
+) -> Result<String, AllocError>
+    ensures text { IfOk result (λ out. string_bytes out ≡ report (state_of register.old latest.old) input.now) }
+    ensures after { OnOk result (state_of register.new latest.new ≡ state_by (state_of register.old latest.old) (script_of input.now)) }
+    ensures led { OnOk result (Led (state_of register.old latest.old) (script_of input.now) (state_of register.new latest.new)) }
+    ensures stopped { Stopped (state_of register.old latest.old) (script_of input.now) (state_of register.new latest.new) }
 {
     let mut out = String::from_str(heap, "answer slot generation value count slots capacity\n")?;
-    add_report(&mut out, register, input)?;
+    add_report(&mut out, register, latest, input)?;
     Ok(out)
 }

@@ -7,18 +7,20 @@
 #[cfg(test)]
 mod tests {
     use kinds::DirectSlot;
-    use passages::{Slot, open};
+    use passages::{PointerSlot, Slot, open, open_directory};
     use runner::run;
     use std::alloc::{AllocError, Global};
     use std::test::Fail;
 
     const NAMES: &[u8] = b"call slot generation value\n";
 
-    // The report on an input, by a new register of 256 slots.
+    // The report on an input, by a new register and a new directory of 256 slots each.
     fn report(heap: Global, input: &[u8]) -> Result<String, AllocError> {
         let mut slots: [Slot; 256] = [DirectSlot::Free; 256];
         let mut register = open(&mut slots);
-        run(heap, &mut register, input)
+        let mut pointers: [PointerSlot; 256] = [DirectSlot::Free; 256];
+        let mut latest = open_directory(&mut pointers);
+        run(heap, &mut register, &mut latest, input)
     }
 
     // Whether the lines after the names get just these answers after the names.
@@ -220,6 +222,48 @@ mod tests {
                 heap,
                 b"compress 1 - -\ncompress - - 0\n",
                 b"13 - - - 0 0 16\n13 - - - 0 0 16\n"
+            )?
+        );
+        Ok(())
+    }
+
+    // Before any compression nothing is held; then what stood at the latest one, under the pointer of then.
+    #[test]
+    fn recasts(rt: HostRuntime) -> Result<(), Fail> {
+        let heap = rt.alloc();
+        assert!(rt;
+            answers(
+                heap,
+                b"insert 2 5 40\ninsert 5 5 70\ninsert 5 6 71\nremove 2 5 -\nrecast 5 5 -\ncompress - - -\nrecast 5 5 -\nrecast 2 5 -\nrecast 5 6 -\nrecast 1 5 -\nrecast 0 5 -\n",
+                b"ok 2 5 40 1 2 16\nok 5 5 70 2 5 16\n2 - - - 2 5 16\nok 2 5 40 1 5 16\n9 - - - 1 5 16\nok - - 1 1 1 16\nok 1 5 - 1 1 16\n9 - - - 1 1 16\n9 - - - 1 1 16\n9 - - - 1 1 16\n9 - - - 1 1 16\n",
+            )?
+        );
+        assert!(rt;
+            answers(
+                heap,
+                b"recast 1 1 1\nrecast 1 - -\nrecast - - -\nrecast 65536 1 -\n",
+                b"13 - - - 0 0 16\n13 - - - 0 0 16\n13 - - - 0 0 16\n13 - - - 0 0 16\n",
+            )?
+        );
+        Ok(())
+    }
+
+    // The second compression's directory takes the first one's place; clearing the register leaves it.
+    #[test]
+    fn only_the_latest_directory(rt: HostRuntime) -> Result<(), Fail> {
+        let heap = rt.alloc();
+        assert!(rt;
+            answers(
+                heap,
+                b"insert 3 1 10\ninsert 4 2 20\ncompress - - -\nrecast 4 2 -\nremove 1 1 -\ncompress - - -\nrecast 4 2 -\nrecast 1 1 -\nrecast 2 2 -\nclear - - -\nrecast 2 2 -\ncompress - - -\nrecast 2 2 -\n",
+                b"ok 3 1 10 1 3 16\nok 4 2 20 2 4 16\nok - - 2 2 2 16\nok 2 2 - 2 2 16\nok 1 1 10 1 2 16\nok - - 1 1 1 16\n9 - - - 1 1 16\n9 - - - 1 1 16\nok 1 2 - 1 1 16\nok - - - 0 0 16\nok 1 2 - 0 0 16\nok - - 0 0 0 16\n9 - - - 0 0 16\n",
+            )?
+        );
+        assert!(rt;
+            answers(
+                heap,
+                b"limit - - 256\nreserve - - 256\ninsert 256 4294967295 9\ncompress - - -\nrecast 256 4294967295 -\n",
+                b"ok - - 256 0 0 16\nok - - 256 0 0 256\nok 256 4294967295 9 1 256 256\nok - - 1 1 1 256\nok 1 4294967295 - 1 1 256\n",
             )?
         );
         Ok(())

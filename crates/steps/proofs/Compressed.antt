@@ -44,6 +44,6 @@ pub then_packed : (w : Unit {0}) (b : Bool) (s t : Slots SeasonGen ℕ) →
     (t ≡ cond b (packed (kept (moving 1 (records s))) (records s)) s) × (count t ≡ count s)
 then_packed w true s t x =
     let e : t ≡ packed (kept (moving 1 (records s))) (records s) =
-        x.slots ∙ ap (λ vs. packed vs (records s)) (given_kept {I = ShortInx} {P = Pointer} (λ n. record { raw = n }) (λ i g. record { inx = i; generation = g }) w (moving 1 (records s))) in
+    x.slots ∙ ap (λ vs. packed vs (records s)) (given_kept {I = ShortInx} {P = Pointer} (λ n. record { raw = n }) (λ i g. record { inx = i; generation = g }) w (moving 1 (records s))) in
     (e, ap count e ∙ count_packed 1 (kept (moving 1 (records s))) s)
 then_packed w false s t x = (x.slots, ap count x.slots)

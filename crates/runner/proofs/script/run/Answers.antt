@@ -7,7 +7,7 @@ use Rattle.runner.proofs.script.run.Goals as goal
 
 pub returns : goal.returns
 returns c =
-    let old = state_of c.args.register.now in
+    let old = state_of c.args.register.now c.args.latest.now in
     let script = script_of c.args.input.now in
     let e = c.in_ok-add_report.ensures in
     record {
@@ -19,12 +19,12 @@ returns c =
 
 pub returns-in_err-out : goal.returns-in_err-out
 returns-in_err-out c =
-    let old = state_of c.args.register.now in
+    let old = state_of c.args.register.now c.args.latest.now in
     let script = script_of c.args.input.now in
     record { text = search rules; after = search rules; led = search rules; stopped = stopped_there old old script (none_reached old (lines_by script)) }
 
 pub returns-in_err-add_report : goal.returns-in_err-add_report
 returns-in_err-add_report c =
-    let old = state_of c.args.register.now in
+    let old = state_of c.args.register.now c.args.latest.now in
     let script = script_of c.args.input.now in
     record { text = search rules; after = search rules; led = search rules; stopped = stopped_there old _ script c.add_report.ensures.reached }
