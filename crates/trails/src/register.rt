@@ -1,0 +1,11 @@
+// The register of a season.
+use passages::{Register, Slot, open};
+
+/// An empty register with room for all slots that the caller lends: a season asks for no capacity.
+pub fn open_register<'a>(slots: &'a mut [Slot]) -> Register<'a> {
+    let lent = slots.len();
+    let mut register = open(slots);
+    let _ = register.set_max_capacity(lent);
+    let _ = register.reallocate_min_capacity(lent);
+    register
+}

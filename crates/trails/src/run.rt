@@ -1,0 +1,151 @@
+// A season from its first line to its last, and then the trails of its citations.
+use crate::calls;
+use crate::directories::Directory;
+use crate::line::Line;
+use crate::trail::{Citation, add_trail};
+use answers::refusal::Refusal;
+use lines::error::LineError;
+use passages::register::{Pointer, Register, pointer};
+use season::call::Call;
+use season::parse::parse;
+use std::alloc::{AllocError, Global};
+use text::split::{Lines, first_line};
+use text::word::is_word;
+
+const LONGEST: usize = 65_536;
+
+// Carries out the call that a line asks for, if it asks for one. It answers the pointer that a paper cites.
+fn carry_out(
+    register: &mut Register<'_>,
+    directories: &mut Vec<Directory<'_>>,
+    filled: &mut usize,
+    line: Result<Call, LineError>,
+) -> Result<Option<Pointer>, Refusal> {
+    match line? {
+        Call::Insert {
+            slot,
+            generation,
+            value,
+        } => calls::insert(register, pointer(slot, generation), value).map(|()| None),
+        Call::Remove { slot, generation } => {
+            calls::remove(register, pointer(slot, generation)).map(|()| None)
+        }
+        Call::Edit {
+            slot,
+            generation,
+            value,
+        } => calls::edit(register, pointer(slot, generation), value).map(|()| None),
+        Call::Compress => calls::compress(register, directories, filled).map(|()| None),
+        Call::Cite { slot, generation } => {
+            let p = pointer(slot, generation);
+            calls::cite(register, p).map(|()| Some(p))
+        }
+    }
+}
+
+// Writes a refusal, and keeps a citation.
+fn note(
+    out: &mut String,
+    citations: &mut Vec<Citation>,
+    line: usize,
+    before: usize,
+    answer: Result<Option<Pointer>, Refusal>,
+) -> Result<(), AllocError> {
+    match answer {
+        Ok(None) => Ok(()),
+        Ok(Some(pointer)) => {
+            citations.push(Citation {
+                line,
+                pointer,
+                before,
+            })?;
+            Ok(())
+        }
+        Err(refusal) => writeln!(out, "{}", Line::Refused { line, refusal }),
+    }
+}
+
+// Carries out all lines of a season; the first of them is line 2 of the input. It answers how many were compressions.
+fn add_season(
+    out: &mut String,
+    citations: &mut Vec<Citation>,
+    register: &mut Register<'_>,
+    directories: &mut Vec<Directory<'_>>,
+    lines: &[u8],
+) -> Result<usize, AllocError> {
+    let mut filled = 0;
+    let mut number: usize = 1;
+    for line in Lines::new(lines) {
+        number = number.saturating_add(1);
+        let answer = carry_out(register, directories, &mut filled, parse(line));
+        note(out, citations, number, filled, answer)?;
+    }
+    Ok(filled)
+}
+
+fn add_trails(
+    out: &mut String,
+    register: &Register<'_>,
+    scratch: &mut Directory<'_>,
+    directories: &[Directory<'_>],
+    citations: &[Citation],
+) -> Result<(), AllocError> {
+    for citation in citations {
+        add_trail(out, register, scratch, directories, *citation)?;
+    }
+    Ok(())
+}
+
+// What stands after the line of names, where `input` is short enough and begins with it.
+fn after_names(input: &[u8]) -> Option<&[u8]> {
+    if input.len() > LONGEST {
+        return None;
+    }
+    let (line, rest) = first_line(input)?;
+    is_word(line, b"call slot generation value").then_some(rest)
+}
+
+// Writes a season's refusals and totals, and the trails of its citations.
+fn add_all(
+    out: &mut String,
+    heap: Global,
+    register: &mut Register<'_>,
+    directories: &mut Vec<Directory<'_>>,
+    scratch: &mut Directory<'_>,
+    lines: &[u8],
+) -> Result<(), AllocError> {
+    let mut citations = Vec::new(heap);
+    let compressions = add_season(out, &mut citations, register, directories, lines)?;
+    writeln!(
+        out,
+        "{}",
+        Line::Totals {
+            compressions,
+            records: register.len(),
+        }
+    )?;
+    directories.truncate(compressions); // those that no compression filled are no part of a trail
+    add_trails(
+        out,
+        register,
+        scratch,
+        directories.as_slice(),
+        citations.as_slice(),
+    )
+}
+
+/// What is written of a season: its refusals, its totals, and the trail of each of its citations.
+pub fn run(
+    heap: Global,
+    register: &mut Register<'_>,
+    directories: &mut Vec<Directory<'_>>,
+    scratch: &mut Directory<'_>,
+    input: &[u8],
+) -> Result<String, AllocError> {
+    let mut out = String::new(heap);
+    match after_names(input) {
+        Some(lines) => add_all(&mut out, heap, register, directories, scratch, lines)?,
+        None => writeln!(out, "{}", Line::NoSeason(Refusal::NotAScript))?,
+    }
+    Ok(out)
+}
