@@ -1,4 +1,7 @@
 // The directories of a season's compressions.
+ghost use Rattle.std.specs.Prelude.{IfOk};
+ghost use Rattle.trails.specs.Reports.{Opened};
+
 use arena::DirectArena;
 use kinds::{DirectSlot, SeasonGen};
 use passages::Pointer;
@@ -17,7 +20,9 @@ pub const ROOM: usize = 256;
 pub fn open_directories<'a>(
     heap: Global,
     slots: &'a mut [PointerSlot],
-) -> Result<Vec<Directory<'a>>, AllocError> {
+) -> Result<Vec<Directory<'a>>, AllocError>
+    ensures { IfOk result (λ ds. Opened ds.items) }
+{
     let mut directories = Vec::new(heap);
     for part in slots.chunks_mut(ROOM) {
         directories.push(DirectArena::new(FixedStack::new(part)))?;

@@ -8,9 +8,9 @@ pub mod calls;
 pub mod directories;
 pub mod line;
 pub mod register;
-pub mod run;
+pub mod seasons;
 pub mod trail;
 
 pub use directories::{Directory, PointerSlot, ROOM, open_directories};
 pub use register::open_register;
-pub use run::run;
+pub use seasons::run;

@@ -1,4 +1,7 @@
 // The lines that are written of a season.
+ghost use Rattle.std.specs.Prelude.{Some};
+ghost use Rattle.trails.specs.Lines.{pointer_text, line_text};
+
 use answers::refusal::Refusal;
 use passages::Pointer;
 use std::fmt;
@@ -8,6 +11,8 @@ use std::fmt;
 pub struct Written(pub Pointer);
 
 impl fmt::Display for Written {
+    ghost output = { λ w. Some (pointer_text w.0) };
+
     fn fmt<W: fmt::Write>(&self, f: &mut fmt::Formatter<W>) -> fmt::Result {
         write!(f, "{} {}", self.0.inx.raw, self.0.generation.season)
     }
@@ -48,6 +53,8 @@ pub enum Line {
 }
 
 impl fmt::Display for Line {
+    ghost output = { λ l. Some (line_text l) };
+
     fn fmt<W: fmt::Write>(&self, f: &mut fmt::Formatter<W>) -> fmt::Result {
         match self {
             Line::NoSeason(refusal) => write!(f, "refused, {refusal}"),

@@ -1,4 +1,9 @@
 // A season from its first line to its last, and then the trails of its citations.
+ghost use Rattle.passages.specs.State.{state_of};
+ghost use Rattle.trails.specs.Chronicle.{Chronicle, GoesOn};
+ghost use Rattle.trails.specs.Answers.{Gets};
+ghost use Rattle.trails.specs.Reports.{of_call, first_reports};
+
 use crate::calls;
 use crate::directories::Directory;
 use crate::line::Line;
@@ -20,7 +25,10 @@ fn carry_out(
     directories: &mut Vec<Directory<'_>>,
     filled: &mut usize,
     line: Result<Call, LineError>,
-) -> Result<Option<Pointer>, Refusal> {
+) -> Result<Option<Pointer>, Refusal>
+    ensures answer { Gets (state_of register.old) line (of_call result) }
+    ensures chronicle { GoesOn (first_reports filled.old directories.old.items) (first_reports filled.new directories.new.items) (state_of register.old).slots (state_of register.new).slots }
+{
     match line? {
         Call::Insert {
             slot,

@@ -1,0 +1,4 @@
+pub mod Chronicles
+pub mod Filled
+pub mod Steps
+pub mod Today

@@ -1,0 +1,5 @@
+pub mod Answers
+pub mod Chronicle
+pub mod Lines
+pub mod Reports
+pub mod Today
