@@ -1,5 +1,5 @@
 -- A season's directories and the history of its register.
-use Rattle.std.specs.Prelude.{◌≡◌, ℕ, true, List, [], ◌++◌}
+use Rattle.std.specs.Prelude.{◌≡◌, ℕ, true, List, [], ◌++◌, Some, None, Option}
 use Rattle.history.specs.Calls.{Entry, Leads}
 use Rattle.history.specs.Directories.{Directory}
 use Rattle.history.specs.Slots.{Slots}
@@ -21,3 +21,8 @@ pub record Chronicle (ds : List (Directory SeasonGen Pointer)) (s : Slots Season
 -- a chronicle of what was goes on to one of what is
 abbrev pub GoesOn : (ds es : List (Directory SeasonGen Pointer)) (s t : Slots SeasonGen ℕ) → Type 0
 GoesOn ds es s t = Chronicle ds s → Chronicle es t
+
+-- so it does over a season; an input that is none changes nothing
+abbrev pub Ran : Option (List (List ℕ)) → List (Directory SeasonGen Pointer) → (s t : Slots SeasonGen ℕ) → Type 0
+Ran (Some lines) ds s t = GoesOn [] ds s t
+Ran None ds s t = t ≡ s

@@ -2,4 +2,5 @@ pub mod Answers
 pub mod Chronicle
 pub mod Lines
 pub mod Reports
+pub mod Season
 pub mod Today

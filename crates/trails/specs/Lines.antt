@@ -10,6 +10,7 @@ use Rattle.kinds.specs.declared.generation.SeasonGen.{SeasonGen}
 use Rattle.outcome.specs.declared.errors.DirectoryError.{DirectoryError}
 use Rattle.trails.specs.Reports.{Pointer, view}
 use Rattle.trails.specs.declared.line.Line.{Line}
+use Rattle.trails.specs.declared.trail.Citation.{Citation}
 use Rattle.trails.specs.declared.line.Line.TheVariants.{NoSeason, Refused, Totals, Cites, Moved, Ended, Today, EndedToday, RefusedToday}
 
 -- slot and generation, with a space between
@@ -69,3 +70,7 @@ through f (Some q) = f q
 abbrev pub come_through : List (Directory SeasonGen Pointer) → Pointer → Option Pointer
 come_through [] p = Some p
 come_through (d ∷ ds) p = through (λ q. come_through ds q) (led_by d p)
+
+-- a citation's line, those of the compressions since, and today's if the pointer came through all of them
+abbrev pub trail_text : Citation → List (Directory SeasonGen Pointer) → Result (Option (Pointer × ℕ)) DirectoryError → List ℕ
+trail_text c since answer = written (Cites c.line c.pointer) ++ (steps_text c.before since c.pointer ++ onward (λ at. written (today_line at answer)) (come_through since c.pointer))

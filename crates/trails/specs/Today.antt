@@ -1,5 +1,5 @@
 -- Where a citation leads today.
-use Rattle.std.specs.Prelude.{ℕ, List, [], ◌∷◌, Some, None, Option}
+use Rattle.std.specs.Prelude.{◌≡◌, ℕ, List, [], ◌∷◌, ◌++◌, drop, Some, None, Ok, Err, Option, Result}
 use Rattle.directory.specs.Find.{looked_up, led_to}
 use Rattle.history.specs.Directories.{Directory, recast_by, joined_with}
 use Rattle.history.specs.Mapped.{records, settle}
@@ -7,7 +7,12 @@ use Rattle.history.specs.Slots.{Slots}
 use Rattle.history.specs.Spans.{Promise}
 use Rattle.kinds.specs.Kinds.{season_alike}
 use Rattle.kinds.specs.declared.generation.SeasonGen.{SeasonGen}
-use Rattle.trails.specs.Reports.{Pointer, view}
+use Rattle.kinds.specs.declared.slot.DirectSlot.{DirectSlot}
+use Rattle.outcome.specs.declared.errors.DirectoryError.{DirectoryError}
+use Rattle.stack.specs.declared.fixed.FixedStack.{FixedStack}
+use Rattle.trails.specs.Lines.{trail_text}
+use Rattle.trails.specs.Reports.{Pointer, view, reports_in}
+use Rattle.trails.specs.declared.trail.Citation.{Citation}
 
 -- a directory's copy: its records, and no slot behind the last
 abbrev pub copied : Directory SeasonGen Pointer → Directory SeasonGen Pointer
@@ -27,3 +32,17 @@ today_of s (d ∷ ds) p = led_to season_alike view s (joined_on (copied d) ds) p
 abbrev pub PromiseToday : Slots SeasonGen ℕ → List (Directory SeasonGen Pointer) → Type 0
 PromiseToday s [] = Unit {0}
 PromiseToday s (d ∷ ds) = Promise season_alike view (joined_on (copied d) ds) s
+
+-- an answer of today is by the reports since; a refused one, for want of room for a join, says nothing
+abbrev pub Answered : Slots SeasonGen ℕ → List (Directory SeasonGen Pointer) → Pointer → Result (Option (Pointer × ℕ)) DirectoryError → Type 0
+Answered s ds p (Ok r) = r ≡ today_of s ds p
+Answered s ds p (Err e) = Unit {0}
+
+-- A citation's trail is added to a text: its line, those of the compressions since, and today's.
+abbrev pub Told : Slots SeasonGen ℕ → List (Directory SeasonGen Pointer) → Citation → (old new : List ℕ) → Type 0
+Told s since c old new = (answer : Result (Option (Pointer × ℕ)) DirectoryError) × Answered s since c.pointer answer × (new ≡ old ++ trail_text c since answer)
+
+-- Those of all these citations are, in order; the directories are those of the whole season.
+abbrev pub AllTold : Slots SeasonGen ℕ → List (FixedStack (DirectSlot SeasonGen Pointer)) → List Citation → (old new : List ℕ) → Type 0
+AllTold s ds [] old new = new ≡ old
+AllTold s ds (c ∷ cs) old new = (between : List ℕ) × Told s (reports_in (drop c.before ds)) c old between × AllTold s ds cs between new

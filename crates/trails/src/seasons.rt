@@ -1,8 +1,11 @@
 // A season from its first line to its last, and then the trails of its citations.
+ghost use Rattle.std.specs.Prelude.{◌≡◌, [], IfOk, OnOk, string_bytes};
 ghost use Rattle.passages.specs.State.{state_of};
-ghost use Rattle.trails.specs.Chronicle.{Chronicle, GoesOn};
+ghost use Rattle.trails.specs.Chronicle.{GoesOn, Ran};
 ghost use Rattle.trails.specs.Answers.{Gets};
-ghost use Rattle.trails.specs.Reports.{of_call, first_reports};
+ghost use Rattle.trails.specs.Reports.{of_call, reports_in, first_reports};
+ghost use Rattle.trails.specs.Season.{lines_in, season_of};
+ghost use Rattle.trails.specs.Today.{AllTold};
 
 use crate::calls;
 use crate::directories::Directory;
@@ -80,7 +83,9 @@ fn add_season(
     register: &mut Register<'_>,
     directories: &mut Vec<Directory<'_>>,
     lines: &[u8],
-) -> Result<usize, AllocError> {
+) -> Result<usize, AllocError>
+    ensures { IfOk result (λ n. GoesOn [] (first_reports n directories.new.items) (state_of register.old).slots (state_of register.new).slots) }
+{
     let mut filled = 0;
     let mut number: usize = 1;
     for line in Lines::new(lines) {
@@ -97,7 +102,9 @@ fn add_trails(
     scratch: &mut Directory<'_>,
     directories: &[Directory<'_>],
     citations: &[Citation],
-) -> Result<(), AllocError> {
+) -> Result<(), AllocError>
+    ensures { OnOk result (AllTold (state_of register.now).slots directories.now citations.now (string_bytes out.old) (string_bytes out.new)) }
+{
     for citation in citations {
         add_trail(out, register, scratch, directories, *citation)?;
     }
@@ -105,7 +112,9 @@ fn add_trails(
 }
 
 // What stands after the line of names, where `input` is short enough and begins with it.
-fn after_names(input: &[u8]) -> Option<&[u8]> {
+fn after_names(input: &[u8]) -> Option<&[u8]>
+    ensures { lines_in result ≡ season_of input.now }
+{
     if input.len() > LONGEST {
         return None;
     }
@@ -121,7 +130,9 @@ fn add_all(
     directories: &mut Vec<Directory<'_>>,
     scratch: &mut Directory<'_>,
     lines: &[u8],
-) -> Result<(), AllocError> {
+) -> Result<(), AllocError>
+    ensures { OnOk result (GoesOn [] (reports_in directories.new.items) (state_of register.old).slots (state_of register.new).slots) }
+{
     let mut citations = Vec::new(heap);
     let compressions = add_season(out, &mut citations, register, directories, lines)?;
     writeln!(
@@ -149,7 +160,9 @@ pub fn run(
     directories: &mut Vec<Directory<'_>>,
     scratch: &mut Directory<'_>,
     input: &[u8],
-) -> Result<String, AllocError> {
+) -> Result<String, AllocError>
+    ensures { OnOk result (Ran (season_of input.now) (reports_in directories.new.items) (state_of register.old).slots (state_of register.new).slots) }
+{
     let mut out = String::new(heap);
     match after_names(input) {
         Some(lines) => add_all(&mut out, heap, register, directories, scratch, lines)?,

@@ -4,7 +4,7 @@ ghost use Rattle.passages.specs.State.{state_of};
 ghost use Rattle.stack.specs.Fixed.{fixed_list};
 ghost use Rattle.trails.specs.Lines.{moved_line, today_line, led_by, steps_text, come_through};
 ghost use Rattle.trails.specs.Reports.{reports_in};
-ghost use Rattle.trails.specs.Today.{copied, joined_on, today_of, PromiseToday};
+ghost use Rattle.trails.specs.Today.{copied, joined_on, Answered, PromiseToday, Told};
 
 use crate::directories::Directory;
 use crate::line::Line;
@@ -100,7 +100,7 @@ pub fn today(
     since: &[Directory<'_>],
     p: Pointer,
 ) -> Result<Option<(Pointer, u32)>, DirectoryError>
-    ensures answer { IfOk result (λ r. r ≡ today_of (state_of register.now).slots (reports_in since.now) p) }
+    ensures answer { Answered (state_of register.now).slots (reports_in since.now) p result }
     ensures promise { OnOk result (PromiseToday (state_of register.now).slots (reports_in since.now)) }
 {
     match since.split_first() {
@@ -130,7 +130,9 @@ pub fn add_trail(
     scratch: &mut Directory<'_>,
     directories: &[Directory<'_>],
     citation: Citation,
-) -> Result<(), AllocError> {
+) -> Result<(), AllocError>
+    ensures { OnOk result (Told (state_of register.now).slots (reports_in (drop citation.before directories.now)) citation (string_bytes out.old) (string_bytes out.new)) }
+{
     writeln!(
         out,
         "{}",
