@@ -10,11 +10,11 @@ use Rattle.history.specs.Spans.{Span, is_compress, compresses, unbroken, ended, 
 use Rattle.history.proofs.Runs.{stands}
 use Rattle.kinds.specs.Kinds.{season_alike}
 use Rattle.kinds.specs.declared.generation.SeasonGen.{SeasonGen}
-use Rattle.trails.specs.Chronicle.{Chronicle, GoesOn}
-use Rattle.trails.specs.Reports.{Pointer, view, Added}
+use Rattle.trails.specs.Chronicle.{OwnCopies, Chronicle, GoesOn}
+use Rattle.trails.specs.Reports.{Pointer, view, copied, Added}
 
 pub new_chronicle : {s : Slots SeasonGen ℕ} → s ≡ [] → Chronicle [] s
-new_chronicle e = subst (λ s. Chronicle [] s) (sym e) (record { spans = []; later = []; leads = still; unbroken = refl; successive = tt; listed = refl })
+new_chronicle e = subst (λ s. Chronicle [] s) (sym e) (record { spans = []; later = []; leads = still; unbroken = refl; successive = tt; listed = refl; copies = tt })
 
 abbrev SeasonSpan : Type 0
 SeasonSpan = Span SeasonGen ℕ Pointer
@@ -27,6 +27,10 @@ successive_push : (xs : List SeasonSpan) (x : SeasonSpan) (h : List (Entry Seaso
 successive_push [] x h s u d = (u, d, tt)
 successive_push (y ∷ ys) x h s u d = (s.0, s.1, successive_push ys x (ended y h) s.2 u d)
 
+copies_push : (ds : List (Directory SeasonGen Pointer)) (d : Directory SeasonGen Pointer) → OwnCopies ds → copied d ≡ d → OwnCopies (ds ++ (d ∷ []))
+copies_push [] d o e = (e, tt)
+copies_push (x ∷ ds) d o e = (o.0, copies_push ds d o.1 e)
+
 module _ {ds : List (Directory SeasonGen Pointer)} {s t : Slots SeasonGen ℕ} where
   -- a call that is no accepted compression
   pub call_more : (e : Entry SeasonGen ℕ) → Step season_alike e s t → compresses e ≡ false → GoesOn ds ds s t
@@ -37,6 +41,7 @@ module _ {ds : List (Directory SeasonGen Pointer)} {s t : Slots SeasonGen ℕ} w
     unbroken = ap (λ b. not b && unbroken c.later) other ∙ c.unbroken;
     successive = c.successive;
     listed = c.listed;
+    copies = c.copies;
   }
 
   -- an accepted compression closes a span
@@ -50,6 +55,7 @@ module _ {ds : List (Directory SeasonGen Pointer)} {s t : Slots SeasonGen ℕ} w
         leads = subst (λ h. Leads season_alike h t) (sym (all_ended_push c.spans x [])) (next c.leads step);
         unbroken = refl;
         successive = successive_push c.spans x [] c.successive c.unbroken (subst (λ hs. Holds view a.0 (report hs)) stood a.2);
+        copies = subst OwnCopies (sym a.1) (copies_push ds a.0 c.copies a.3);
         listed = a.1 ∙ ap (λ l. l ++ (a.0 ∷ [])) c.listed ∙ sym (map-append (λ y. y.directory) c.spans (x ∷ []));
       }
 

@@ -1,4 +1,5 @@
 pub mod Chronicles
+pub mod Copies
 pub mod Filled
 pub mod Steps
 pub mod Today

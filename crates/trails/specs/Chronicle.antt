@@ -1,12 +1,17 @@
 -- A season's directories and the history of its register.
-use Rattle.std.specs.Prelude.{◌≡◌, ℕ, true, List, [], ◌++◌, Some, None, Option}
+use Rattle.std.specs.Prelude.{◌≡◌, ℕ, true, List, [], ◌∷◌, ◌++◌, Some, None, Option}
 use Rattle.history.specs.Calls.{Entry, Leads}
 use Rattle.history.specs.Directories.{Directory}
 use Rattle.history.specs.Slots.{Slots}
 use Rattle.history.specs.Spans.{Span, all_ended, unbroken, Successive, directories}
 use Rattle.kinds.specs.Kinds.{season_alike}
 use Rattle.kinds.specs.declared.generation.SeasonGen.{SeasonGen}
-use Rattle.trails.specs.Reports.{Pointer, view}
+use Rattle.trails.specs.Reports.{Pointer, view, copied}
+
+-- each is its own copy
+abbrev pub OwnCopies : List (Directory SeasonGen Pointer) → Type 0
+OwnCopies [] = Unit {0}
+OwnCopies (d ∷ ds) = (copied d ≡ d) × OwnCopies ds
 
 -- These are the directories of all compressions since the register was made, in order, and each holds just the report of
 -- its own: there is a history that leads to the slots, whose spans they are, and no compression came later.
@@ -17,6 +22,7 @@ pub record Chronicle (ds : List (Directory SeasonGen Pointer)) (s : Slots Season
   pub unbroken : unbroken later ≡ true
   pub successive : Successive view spans []
   pub listed : ds ≡ directories spans
+  pub copies : OwnCopies ds
 
 -- a chronicle of what was goes on to one of what is
 abbrev pub GoesOn : (ds es : List (Directory SeasonGen Pointer)) (s t : Slots SeasonGen ℕ) → Type 0

@@ -4,7 +4,7 @@ use Rattle.answers.specs.Refusals.{number_of}
 use Rattle.answers.specs.declared.refusal.Refusal.{Refusal}
 use Rattle.arena.specs.Answers.{cited}
 use Rattle.history.specs.Directories.{Directory, Holds}
-use Rattle.history.specs.Mapped.{Pair}
+use Rattle.history.specs.Mapped.{Pair, records, settle}
 use Rattle.history.specs.Slots.{Slots, Ptr, Held}
 use Rattle.kinds.specs.Kinds.{short_number}
 use Rattle.kinds.specs.declared.generation.SeasonGen.{SeasonGen}
@@ -43,8 +43,12 @@ first_reports n ds = reports_in (take n ds)
 abbrev pub Opened : List (FixedStack (DirectSlot SeasonGen Pointer)) → Type 0
 Opened ds = All (λ d. fixed_list d ≡ []) ds
 
--- An accepted compression adds a directory behind those filled before, which holds just its report; a refused one leaves
--- them as they are.
+-- a directory's copy: its records, and no slot behind the last
+abbrev pub copied : Directory SeasonGen Pointer → Directory SeasonGen Pointer
+copied d = settle [] (records d)
+
+-- An accepted compression adds a directory behind those filled before, which holds just its report and is its own copy; a
+-- refused one leaves them as they are.
 abbrev pub Added : Bool → List (Pair SeasonGen SeasonGen) → (ds es : List (Directory SeasonGen Pointer)) → Type 0
-Added true ps ds es = (d : Directory SeasonGen Pointer) × (es ≡ ds ++ (d ∷ [])) × Holds view d ps
+Added true ps ds es = (d : Directory SeasonGen Pointer) × (es ≡ ds ++ (d ∷ [])) × Holds view d ps × (copied d ≡ d)
 Added false ps ds es = es ≡ ds

@@ -2,21 +2,17 @@
 use Rattle.std.specs.Prelude.{◌≡◌, ℕ, List, [], ◌∷◌, ◌++◌, drop, Some, None, Ok, Err, Option, Result}
 use Rattle.directory.specs.Find.{looked_up, led_to}
 use Rattle.history.specs.Directories.{Directory, recast_by, joined_with}
-use Rattle.history.specs.Mapped.{records, settle}
 use Rattle.history.specs.Slots.{Slots}
-use Rattle.history.specs.Spans.{Promise}
+use Rattle.history.specs.Spans.{Span, all_ended, directories, Traced, Promise}
 use Rattle.kinds.specs.Kinds.{season_alike}
 use Rattle.kinds.specs.declared.generation.SeasonGen.{SeasonGen}
 use Rattle.kinds.specs.declared.slot.DirectSlot.{DirectSlot}
 use Rattle.outcome.specs.declared.errors.DirectoryError.{DirectoryError}
 use Rattle.stack.specs.declared.fixed.FixedStack.{FixedStack}
+use Rattle.trails.specs.Chronicle.{Chronicle}
 use Rattle.trails.specs.Lines.{trail_text}
-use Rattle.trails.specs.Reports.{Pointer, view, reports_in}
+use Rattle.trails.specs.Reports.{Pointer, view, reports_in, copied}
 use Rattle.trails.specs.declared.trail.Citation.{Citation}
-
--- a directory's copy: its records, and no slot behind the last
-abbrev pub copied : Directory SeasonGen Pointer → Directory SeasonGen Pointer
-copied d = settle [] (records d)
 
 -- a directory joined with all these, one after the other
 abbrev pub joined_on : Directory SeasonGen Pointer → List (Directory SeasonGen Pointer) → Directory SeasonGen Pointer
@@ -28,10 +24,16 @@ abbrev pub today_of : Slots SeasonGen ℕ → List (Directory SeasonGen Pointer)
 today_of s [] p = looked_up season_alike view s (Some p)
 today_of s (d ∷ ds) p = led_to season_alike view s (joined_on (copied d) ds) p
 
--- what holds of the register and of the joined directories, whichever histories led to them
+-- What holds of the register and of the joined directories, whichever histories led to them. And where these are the
+-- directories of the last spans of a chronicle: of a pointer given in the first of these spans, what is said of a join.
+pub record Promised (s : Slots SeasonGen ℕ) (d : Directory SeasonGen Pointer) (ds : List (Directory SeasonGen Pointer)) : Type 0 where
+  pub whole : Promise season_alike view (joined_on (copied d) ds) s
+  pub traced : (front : List (Directory SeasonGen Pointer)) (c : Chronicle (front ++ (d ∷ ds)) s) (before : List (Span SeasonGen ℕ Pointer)) (x : Span SeasonGen ℕ Pointer) (xs : List (Span SeasonGen ℕ Pointer)) →
+      c.spans ≡ before ++ (x ∷ xs) → d ∷ ds ≡ directories (x ∷ xs) → Traced season_alike view (joined_on (copied d) ds) s x xs (all_ended before []) c.later
+
 abbrev pub PromiseToday : Slots SeasonGen ℕ → List (Directory SeasonGen Pointer) → Type 0
 PromiseToday s [] = Unit {0}
-PromiseToday s (d ∷ ds) = Promise season_alike view (joined_on (copied d) ds) s
+PromiseToday s (d ∷ ds) = Promised s d ds
 
 -- an answer of today is by the reports since; a refused one, for want of room for a join, says nothing
 abbrev pub Answered : Slots SeasonGen ℕ → List (Directory SeasonGen Pointer) → Pointer → Result (Option (Pointer × ℕ)) DirectoryError → Type 0

@@ -3,8 +3,8 @@ ghost use Rattle.std.specs.Prelude.{◌≡◌, ◌++◌, IfOk, OnOk, drop, strin
 ghost use Rattle.passages.specs.State.{state_of};
 ghost use Rattle.stack.specs.Fixed.{fixed_list};
 ghost use Rattle.trails.specs.Lines.{moved_line, today_line, led_by, steps_text, come_through};
-ghost use Rattle.trails.specs.Reports.{reports_in};
-ghost use Rattle.trails.specs.Today.{copied, joined_on, Answered, PromiseToday, Told};
+ghost use Rattle.trails.specs.Reports.{reports_in, copied};
+ghost use Rattle.trails.specs.Today.{joined_on, Answered, PromiseToday, Told};
 
 use crate::directories::Directory;
 use crate::line::Line;
