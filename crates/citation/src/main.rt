@@ -1,0 +1,40 @@
+//! The program that the canal office shows its inspector: it reads a season, and writes the trail of each citation.
+//! It uses `trails`, which does all the work, and what its register and its directories are made of.
+//! What is read and written is tested on the sample beside it; what is proved of the rest is said in docs/CITATION.md.
+
+#![tactic(auto)]
+
+use arena::DirectArena;
+use kinds::DirectSlot;
+use passages::Slot;
+use stack::FixedStack;
+use std::io;
+use std::io::{Read, Write};
+use trails::{PointerSlot, ROOM, open_directories, open_register, run};
+
+// One byte more than a season may have: so a longer one is seen, and not read whole.
+const MOST: u64 = 65_537;
+
+// How many compressions a season may have.
+const COMPRESSIONS: usize = 64;
+
+fn main(rt: HostRuntime) -> io::Result<()> {
+    let heap = rt.alloc();
+    let mut input = Vec::new(heap);
+    rt.stdin().take(MOST).read_to_end(&mut input)?;
+    let mut slots: [Slot; ROOM] = [DirectSlot::Free; ROOM];
+    let mut register = open_register(&mut slots);
+    let free: PointerSlot = DirectSlot::Free;
+    let mut kept = vec![in heap; free; COMPRESSIONS * ROOM]?;
+    let mut directories = open_directories(heap, kept.as_mut_slice())?;
+    let mut joined: [PointerSlot; ROOM] = [DirectSlot::Free; ROOM];
+    let mut scratch = DirectArena::new(FixedStack::new(&mut joined));
+    let report = run(
+        heap,
+        &mut register,
+        &mut directories,
+        &mut scratch,
+        input.as_slice(),
+    )?;
+    rt.stdout().write_all(report.as_bytes())
+}

@@ -1,0 +1,65 @@
+// What a line of a season means.
+ghost use Rattle.std.specs.Prelude.{◌≡◌};
+ghost use Rattle.text.specs.Fields.{four_in};
+ghost use Rattle.text.specs.Number.{field_of};
+ghost use Rattle.lines.specs.Meaning.{field_or_unfit};
+ghost use Rattle.season.specs.Meaning.{is_shared, cited_by, meaning};
+
+use crate::call::{Call, of_runner};
+use lines::error::LineError;
+use lines::parse::parse as parse_shared;
+use text::number::read_field;
+use text::split::{Fields, four_fields};
+use text::word::is_word;
+
+const LONGEST: usize = 80;
+
+// Slots have 16 bits.
+fn read_slot(bytes: &[u8]) -> Result<Option<u16>, LineError>
+    ensures { result ≡ field_or_unfit (field_of 65535 bytes.now) }
+{
+    let slot = read_field(bytes, 65535)?;
+    slot.map(u16::try_from)
+        .transpose()
+        .map_err(|_| LineError::Unfit)
+}
+
+// A citation wants a slot and a generation, and a blank for the value.
+fn parse_cite(fields: Fields<'_>) -> Result<Call, LineError>
+    ensures { result ≡ cited_by (four_in fields.entry) }
+{
+    let slot = read_slot(fields.slot)?;
+    let generation = read_field(fields.generation, u32::MAX)?;
+    let value = read_field(fields.value, u32::MAX)?;
+    match (slot, generation, value) {
+        (Some(slot), Some(generation), None) => Ok(Call::Cite { slot, generation }),
+        _ => Err(LineError::Unfit),
+    }
+}
+
+// Whether the name is that of a call which the runner has too.
+fn is_shared(name: &[u8]) -> bool
+    ensures { result ≡ is_shared name.now }
+{
+    is_word(name, b"insert")
+        || is_word(name, b"remove")
+        || is_word(name, b"edit")
+        || is_word(name, b"compress")
+}
+
+/// The name is looked at first: the runner's other calls are unknown here, whatever their fields.
+pub fn parse(line: &[u8]) -> Result<Call, LineError>
+    ensures meaning { result ≡ meaning line.now }
+{
+    if line.len() > LONGEST {
+        return Err(LineError::Unknown); // no call has so long a text
+    }
+    let fields = four_fields(line).ok_or(LineError::Unknown)?;
+    if is_word(fields.call, b"cite") {
+        return parse_cite(fields);
+    }
+    if !is_shared(fields.call) {
+        return Err(LineError::Unknown);
+    }
+    of_runner(parse_shared(line)?)
+}

@@ -1,0 +1,68 @@
+-- A chronicle goes on with each call.
+use Rattle.std.proofs.Common.{◌≡◌, ℕ, Bool, true, false, ◌&&◌, not, List, [], ◌∷◌, ◌++◌, map, sym, refl, ap, ◌∙◌, subst}
+use Rattle.std.proofs.lemmas.List.{map-append}
+use Rattle.history.specs.Calls.{Call, compress, Entry, Step, Leads, still, next}
+use Rattle.history.specs.Directories.{Directory, Holds}
+use Rattle.history.specs.Laws.{standing_after}
+use Rattle.history.specs.Mapped.{records, report, kept}
+use Rattle.history.specs.Slots.{Slots, count}
+use Rattle.history.specs.Spans.{Span, is_compress, compresses, unbroken, ended, all_ended, up_to, Successive, directories}
+use Rattle.history.proofs.Runs.{stands}
+use Rattle.kinds.specs.Kinds.{season_alike}
+use Rattle.kinds.specs.declared.generation.SeasonGen.{SeasonGen}
+use Rattle.trails.specs.Chronicle.{OwnCopies, Chronicle, GoesOn}
+use Rattle.trails.specs.Reports.{Pointer, view, copied, Added}
+
+pub new_chronicle : {s : Slots SeasonGen ℕ} → s ≡ [] → Chronicle [] s
+new_chronicle e = subst (λ s. Chronicle [] s) (sym e) (record { spans = []; later = []; leads = still; unbroken = refl; successive = tt; listed = refl; copies = tt })
+
+abbrev SeasonSpan : Type 0
+SeasonSpan = Span SeasonGen ℕ Pointer
+
+all_ended_push : (xs : List SeasonSpan) (x : SeasonSpan) (h : List (Entry SeasonGen ℕ)) → all_ended (xs ++ (x ∷ [])) h ≡ ended x (all_ended xs h)
+all_ended_push [] x h = refl
+all_ended_push (y ∷ ys) x h = all_ended_push ys x (ended y h)
+
+successive_push : (xs : List SeasonSpan) (x : SeasonSpan) (h : List (Entry SeasonGen ℕ)) → Successive view xs h → unbroken x.calls ≡ true → Holds view x.directory (report (standing_after (up_to x (all_ended xs h)))) → Successive view (xs ++ (x ∷ [])) h
+successive_push [] x h s u d = (u, d, tt)
+successive_push (y ∷ ys) x h s u d = (s.0, s.1, successive_push ys x (ended y h) s.2 u d)
+
+copies_push : (ds : List (Directory SeasonGen Pointer)) (d : Directory SeasonGen Pointer) → OwnCopies ds → copied d ≡ d → OwnCopies (ds ++ (d ∷ []))
+copies_push [] d o e = (e, tt)
+copies_push (x ∷ ds) d o e = (o.0, copies_push ds d o.1 e)
+
+module _ {ds : List (Directory SeasonGen Pointer)} {s t : Slots SeasonGen ℕ} where
+  -- a call that is no accepted compression
+  pub call_more : (e : Entry SeasonGen ℕ) → Step season_alike e s t → compresses e ≡ false → GoesOn ds ds s t
+  call_more e step other c = record {
+    spans = c.spans;
+    later = e ∷ c.later;
+    leads = next c.leads step;
+    unbroken = ap (λ b. not b && unbroken c.later) other ∙ c.unbroken;
+    successive = c.successive;
+    listed = c.listed;
+    copies = c.copies;
+  }
+
+  -- an accepted compression closes a span
+  span_more : {es : List (Directory SeasonGen Pointer)} → Step season_alike (record { call = compress kept; accepted = true }) s t → Added true (report (records s)) ds es → GoesOn ds es s t
+  span_more {es} step a c =
+      let x : SeasonSpan = record { calls = c.later; mapping = kept; directory = a.0 } in
+      let stood = (stands season_alike (c.later ++ all_ended c.spans []) s c.leads (count s) refl).listed in
+      record {
+        spans = c.spans ++ (x ∷ []);
+        later = [];
+        leads = subst (λ h. Leads season_alike h t) (sym (all_ended_push c.spans x [])) (next c.leads step);
+        unbroken = refl;
+        successive = successive_push c.spans x [] c.successive c.unbroken (subst (λ hs. Holds view a.0 (report hs)) stood a.2);
+        copies = subst OwnCopies (sym a.1) (copies_push ds a.0 c.copies a.3);
+        listed = a.1 ∙ ap (λ l. l ++ (a.0 ∷ [])) c.listed ∙ sym (map-append (λ y. y.directory) c.spans (x ∷ []));
+      }
+
+  pub compression_more : {es : List (Directory SeasonGen Pointer)} (b : Bool) → Step season_alike (record { call = compress kept; accepted = b }) s t → Added b (report (records s)) ds es → GoesOn ds es s t
+  compression_more true step a c = span_more step a c
+  compression_more false step a c = subst (λ es. Chronicle es t) (sym a) (call_more _ step refl c)
+
+pub never_both : (b : Bool) → b && false ≡ false
+never_both true = refl
+never_both false = refl

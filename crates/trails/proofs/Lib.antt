@@ -1,0 +1,6 @@
+pub mod Chronicles
+pub mod Copies
+pub mod Filled
+pub mod Steps
+pub mod Today
+pub mod Trails

@@ -1,0 +1,6 @@
+pub mod Answers
+pub mod Chronicle
+pub mod Lines
+pub mod Reports
+pub mod Season
+pub mod Today

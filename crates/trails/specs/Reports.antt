@@ -1,0 +1,54 @@
+-- A season's calls, and the reports that it keeps.
+use Rattle.std.specs.Prelude.{◌≡◌, ℕ, Bool, true, false, List, [], ◌∷◌, ◌++◌, map, take, All, Some, None, Ok, Err, Option, Result}
+use Rattle.answers.specs.Refusals.{number_of}
+use Rattle.answers.specs.declared.refusal.Refusal.{Refusal}
+use Rattle.arena.specs.Answers.{cited}
+use Rattle.history.specs.Directories.{Directory, Holds}
+use Rattle.history.specs.Mapped.{Pair, records, settle}
+use Rattle.history.specs.Slots.{Slots, Ptr, Held}
+use Rattle.kinds.specs.Kinds.{short_number}
+use Rattle.kinds.specs.declared.generation.SeasonGen.{SeasonGen}
+use Rattle.kinds.specs.declared.index.ShortInx.{ShortInx}
+use Rattle.kinds.specs.declared.pointer.PtrOf.{PtrOf}
+use Rattle.kinds.specs.declared.slot.DirectSlot.{DirectSlot}
+use Rattle.outcome.specs.Outcome.{Outcome, done, refused}
+use Rattle.stack.specs.Fixed.{fixed_list}
+use Rattle.stack.specs.declared.fixed.FixedStack.{FixedStack}
+
+abbrev pub Pointer : Type 0
+Pointer = PtrOf ShortInx SeasonGen
+
+-- a pointer as a slot and a generation
+abbrev pub view : Pointer → Ptr SeasonGen
+view p = cited {P = Pointer} short_number (λ q. q.inx) (λ q. q.generation) p
+
+-- carried out, or refused under a number
+abbrev pub of_call : {X : Type 0} → Result X Refusal → Outcome X
+of_call (Ok x) = done x
+of_call (Err r) = refused (number_of r)
+
+-- a call that finds its record is carried out; any other is refused with 3
+abbrev pub held_or_not : Option (Held SeasonGen ℕ) → Outcome (Unit {0})
+held_or_not None = refused 3
+held_or_not (Some h) = done tt
+
+-- the slots of directories
+abbrev pub reports_in : List (FixedStack (DirectSlot SeasonGen Pointer)) → List (Directory SeasonGen Pointer)
+reports_in ds = map (λ d. fixed_list d) ds
+
+-- those of the first so many
+abbrev pub first_reports : ℕ → List (FixedStack (DirectSlot SeasonGen Pointer)) → List (Directory SeasonGen Pointer)
+first_reports n ds = reports_in (take n ds)
+
+abbrev pub Opened : List (FixedStack (DirectSlot SeasonGen Pointer)) → Type 0
+Opened ds = All (λ d. fixed_list d ≡ []) ds
+
+-- a directory's copy: its records, and no slot behind the last
+abbrev pub copied : Directory SeasonGen Pointer → Directory SeasonGen Pointer
+copied d = settle [] (records d)
+
+-- An accepted compression adds a directory behind those filled before, which holds just its report and is its own copy; a
+-- refused one leaves them as they are.
+abbrev pub Added : Bool → List (Pair SeasonGen SeasonGen) → (ds es : List (Directory SeasonGen Pointer)) → Type 0
+Added true ps ds es = (d : Directory SeasonGen Pointer) × (es ≡ ds ++ (d ∷ [])) × Holds view d ps × (copied d ≡ d)
+Added false ps ds es = es ≡ ds

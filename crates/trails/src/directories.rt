@@ -1,0 +1,31 @@
+// The directories of a season's compressions.
+ghost use Rattle.std.specs.Prelude.{IfOk};
+ghost use Rattle.trails.specs.Reports.{Opened};
+
+use arena::DirectArena;
+use kinds::{DirectSlot, SeasonGen};
+use passages::Pointer;
+use stack::FixedStack;
+use std::alloc::{AllocError, Global};
+
+pub type PointerSlot = DirectSlot<SeasonGen, Pointer>;
+
+/// At each old pointer of a compression the new one.
+pub type Directory<'a> = DirectArena<Pointer, Pointer, FixedStack<'a, PointerSlot>>;
+
+/// The slots of a directory, as many as a register has at most.
+pub const ROOM: usize = 256;
+
+/// Empty directories, one for each `ROOM` of the slots that the caller lends.
+pub fn open_directories<'a>(
+    heap: Global,
+    slots: &'a mut [PointerSlot],
+) -> Result<Vec<Directory<'a>>, AllocError>
+    ensures { IfOk result (λ ds. Opened ds.items) }
+{
+    let mut directories = Vec::new(heap);
+    for part in slots.chunks_mut(ROOM) {
+        directories.push(DirectArena::new(FixedStack::new(part)))?;
+    }
+    Ok(directories)
+}

@@ -1,0 +1,172 @@
+// A season from its first line to its last, and then the trails of its citations.
+ghost use Rattle.std.specs.Prelude.{◌≡◌, [], IfOk, OnOk, string_bytes};
+ghost use Rattle.passages.specs.State.{state_of};
+ghost use Rattle.trails.specs.Chronicle.{GoesOn, Ran};
+ghost use Rattle.trails.specs.Answers.{Gets};
+ghost use Rattle.trails.specs.Reports.{of_call, reports_in, first_reports};
+ghost use Rattle.trails.specs.Season.{lines_in, season_of};
+ghost use Rattle.trails.specs.Today.{AllTold};
+
+use crate::calls;
+use crate::directories::Directory;
+use crate::line::Line;
+use crate::trail::{Citation, add_trail};
+use answers::refusal::Refusal;
+use lines::error::LineError;
+use passages::register::{Pointer, Register, pointer};
+use season::call::Call;
+use season::parse::parse;
+use std::alloc::{AllocError, Global};
+use text::split::{Lines, first_line};
+use text::word::is_word;
+
+const LONGEST: usize = 65_536;
+
+// Carries out the call that a line asks for, if it asks for one. It answers the pointer that a paper cites.
+fn carry_out(
+    register: &mut Register<'_>,
+    directories: &mut Vec<Directory<'_>>,
+    filled: &mut usize,
+    line: Result<Call, LineError>,
+) -> Result<Option<Pointer>, Refusal>
+    ensures answer { Gets (state_of register.old) line (of_call result) }
+    ensures chronicle { GoesOn (first_reports filled.old directories.old.items) (first_reports filled.new directories.new.items) (state_of register.old).slots (state_of register.new).slots }
+{
+    match line? {
+        Call::Insert {
+            slot,
+            generation,
+            value,
+        } => calls::insert(register, pointer(slot, generation), value).map(|()| None),
+        Call::Remove { slot, generation } => {
+            calls::remove(register, pointer(slot, generation)).map(|()| None)
+        }
+        Call::Edit {
+            slot,
+            generation,
+            value,
+        } => calls::edit(register, pointer(slot, generation), value).map(|()| None),
+        Call::Compress => calls::compress(register, directories, filled).map(|()| None),
+        Call::Cite { slot, generation } => {
+            let p = pointer(slot, generation);
+            calls::cite(register, p).map(|()| Some(p))
+        }
+    }
+}
+
+// Writes a refusal, and keeps a citation.
+fn note(
+    out: &mut String,
+    citations: &mut Vec<Citation>,
+    line: usize,
+    before: usize,
+    answer: Result<Option<Pointer>, Refusal>,
+) -> Result<(), AllocError> {
+    match answer {
+        Ok(None) => Ok(()),
+        Ok(Some(pointer)) => {
+            citations.push(Citation {
+                line,
+                pointer,
+                before,
+            })?;
+            Ok(())
+        }
+        Err(refusal) => writeln!(out, "{}", Line::Refused { line, refusal }),
+    }
+}
+
+// Carries out all lines of a season; the first of them is line 2 of the input. It answers how many were compressions.
+fn add_season(
+    out: &mut String,
+    citations: &mut Vec<Citation>,
+    register: &mut Register<'_>,
+    directories: &mut Vec<Directory<'_>>,
+    lines: &[u8],
+) -> Result<usize, AllocError>
+    ensures { IfOk result (λ n. GoesOn [] (first_reports n directories.new.items) (state_of register.old).slots (state_of register.new).slots) }
+{
+    let mut filled = 0;
+    let mut number: usize = 1;
+    for line in Lines::new(lines) {
+        number = number.saturating_add(1);
+        let answer = carry_out(register, directories, &mut filled, parse(line));
+        note(out, citations, number, filled, answer)?;
+    }
+    Ok(filled)
+}
+
+fn add_trails(
+    out: &mut String,
+    register: &Register<'_>,
+    scratch: &mut Directory<'_>,
+    directories: &[Directory<'_>],
+    citations: &[Citation],
+) -> Result<(), AllocError>
+    ensures { OnOk result (AllTold (state_of register.now).slots directories.now citations.now (string_bytes out.old) (string_bytes out.new)) }
+{
+    for citation in citations {
+        add_trail(out, register, scratch, directories, *citation)?;
+    }
+    Ok(())
+}
+
+// What stands after the line of names, where `input` is short enough and begins with it.
+fn after_names(input: &[u8]) -> Option<&[u8]>
+    ensures { lines_in result ≡ season_of input.now }
+{
+    if input.len() > LONGEST {
+        return None;
+    }
+    let (line, rest) = first_line(input)?;
+    is_word(line, b"call slot generation value").then_some(rest)
+}
+
+// Writes a season's refusals and totals, and the trails of its citations.
+fn add_all(
+    out: &mut String,
+    heap: Global,
+    register: &mut Register<'_>,
+    directories: &mut Vec<Directory<'_>>,
+    scratch: &mut Directory<'_>,
+    lines: &[u8],
+) -> Result<(), AllocError>
+    ensures { OnOk result (GoesOn [] (reports_in directories.new.items) (state_of register.old).slots (state_of register.new).slots) }
+{
+    let mut citations = Vec::new(heap);
+    let compressions = add_season(out, &mut citations, register, directories, lines)?;
+    writeln!(
+        out,
+        "{}",
+        Line::Totals {
+            compressions,
+            records: register.len(),
+        }
+    )?;
+    directories.truncate(compressions); // those that no compression filled are no part of a trail
+    add_trails(
+        out,
+        register,
+        scratch,
+        directories.as_slice(),
+        citations.as_slice(),
+    )
+}
+
+/// What is written of a season: its refusals, its totals, and the trail of each of its citations.
+pub fn run(
+    heap: Global,
+    register: &mut Register<'_>,
+    directories: &mut Vec<Directory<'_>>,
+    scratch: &mut Directory<'_>,
+    input: &[u8],
+) -> Result<String, AllocError>
+    ensures { OnOk result (Ran (season_of input.now) (reports_in directories.new.items) (state_of register.old).slots (state_of register.new).slots) }
+{
+    let mut out = String::new(heap);
+    match after_names(input) {
+        Some(lines) => add_all(&mut out, heap, register, directories, scratch, lines)?,
+        None => writeln!(out, "{}", Line::NoSeason(Refusal::NotAScript))?,
+    }
+    Ok(out)
+}

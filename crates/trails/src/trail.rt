@@ -1,0 +1,150 @@
+// The trail of a citation: what became of its pointer at each compression since, and what it leads to today.
+ghost use Rattle.std.specs.Prelude.{◌≡◌, ◌++◌, IfOk, OnOk, drop, string_bytes};
+ghost use Rattle.passages.specs.State.{state_of};
+ghost use Rattle.stack.specs.Fixed.{fixed_list};
+ghost use Rattle.trails.specs.Lines.{moved_line, today_line, led_by, steps_text, come_through};
+ghost use Rattle.trails.specs.Reports.{reports_in, copied};
+ghost use Rattle.trails.specs.Today.{joined_on, Answered, PromiseToday, Told};
+
+use crate::directories::Directory;
+use crate::line::Line;
+use answers::refusal::Refusal;
+use directory::find::find;
+use mapper::{KeepValues, Recaster};
+use outcome::DirectoryError;
+use passages::{Pointer, Register};
+use std::alloc::AllocError;
+
+/// A paper's citation: the line at which it was written, the pointer, and how many compressions came before it.
+#[derive(Clone, Copy, Debug, PartialEq, Eq)]
+pub struct Citation {
+    pub line: usize,
+    pub pointer: Pointer,
+    pub before: usize,
+}
+
+// Where a compression leads a pointer, by its directory.
+fn led_by(directory: &Directory<'_>, p: Pointer) -> Option<Pointer>
+    ensures { result ≡ led_by (fixed_list directory.now) p }
+{
+    directory.recast_item(p).ok()
+}
+
+// The line of the compression of this number, which leads a pointer to another, or to none.
+fn moved_line(compression: usize, old: Pointer, new: Option<Pointer>) -> Line
+    ensures { result ≡ moved_line compression old new }
+{
+    match new {
+        Some(new) => Line::Moved {
+            compression,
+            old,
+            new,
+        },
+        None => Line::Ended {
+            compression,
+            pointer: old,
+        },
+    }
+}
+
+// Writes a line for each compression after the first `before`, up to the one that leads to none. It answers the pointer
+// that comes through all of them.
+fn add_steps(
+    out: &mut String,
+    directories: &[Directory<'_>],
+    before: usize,
+    p: Pointer,
+) -> Result<Option<Pointer>, AllocError>
+    ensures text { OnOk result (string_bytes out.new ≡ string_bytes out.old ++ steps_text before (reports_in (drop before directories.now)) p) }
+    ensures end { IfOk result (λ q. q ≡ come_through (reports_in (drop before directories.now)) p) }
+{
+    let mut at = p;
+    for n in before..directories.len() {
+        let new = led_by(&directories[n], at);
+        writeln!(out, "{}", moved_line(n + 1, at, new))?;
+        let Some(next) = new else {
+            return Ok(None);
+        };
+        at = next;
+    }
+    Ok(Some(at))
+}
+
+// Joins directories to the scratch one, one after the other.
+fn join_all(scratch: &mut Directory<'_>, directories: &[Directory<'_>])
+    ensures { fixed_list scratch.new ≡ joined_on (fixed_list scratch.old) (reports_in directories.now) }
+{
+    for directory in directories {
+        scratch.join(directory);
+    }
+}
+
+// The scratch directory becomes the first with the others joined to it.
+fn join_since(
+    scratch: &mut Directory<'_>,
+    first: &Directory<'_>,
+    rest: &[Directory<'_>],
+) -> Result<(), DirectoryError>
+    ensures { OnOk result (fixed_list scratch.new ≡ joined_on (copied (fixed_list first.now)) (reports_in rest.now)) }
+{
+    scratch.clone_from_with(first, &mut KeepValues)?;
+    join_all(scratch, rest);
+    Ok(())
+}
+
+/// What a pointer leads to today, by the joined directories of the compressions since it was cited; with none since,
+/// the register itself answers.
+pub fn today(
+    register: &Register<'_>,
+    scratch: &mut Directory<'_>,
+    since: &[Directory<'_>],
+    p: Pointer,
+) -> Result<Option<(Pointer, u32)>, DirectoryError>
+    ensures answer { Answered (state_of register.now).slots (reports_in since.now) p result }
+    ensures promise { OnOk result (PromiseToday (state_of register.now).slots (reports_in since.now)) }
+{
+    match since.split_first() {
+        Some((first, rest)) => {
+            join_since(scratch, first, rest)?;
+            Ok(find(register, scratch, p))
+        }
+        None => Ok(register.get(p).map(|value| (p, value))),
+    }
+}
+
+// The last line of a trail that came through every compression, to the pointer `at`.
+fn today_line(at: Pointer, answer: Result<Option<(Pointer, u32)>, DirectoryError>) -> Line
+    ensures { result ≡ today_line at answer }
+{
+    match answer {
+        Ok(Some((pointer, value))) => Line::Today { pointer, value },
+        Ok(None) => Line::EndedToday(at),
+        Err(error) => Line::RefusedToday(Refusal::from(error)),
+    }
+}
+
+/// Writes the whole trail of a citation.
+pub fn add_trail(
+    out: &mut String,
+    register: &Register<'_>,
+    scratch: &mut Directory<'_>,
+    directories: &[Directory<'_>],
+    citation: Citation,
+) -> Result<(), AllocError>
+    ensures { OnOk result (Told (state_of register.now).slots (reports_in (drop citation.before directories.now)) citation (string_bytes out.old) (string_bytes out.new)) }
+{
+    writeln!(
+        out,
+        "{}",
+        Line::Cites {
+            line: citation.line,
+            pointer: citation.pointer,
+        }
+    )?;
+    let Some(at) = add_steps(out, directories, citation.before, citation.pointer)? else {
+        return Ok(());
+    };
+    let since = &directories[citation.before.min(directories.len())..];
+    let answer = today(register, scratch, since, citation.pointer);
+    writeln!(out, "{}", today_line(at, answer))
+}
