@@ -4,13 +4,11 @@
 
 #![tactic(auto)]
 
-use arena::DirectArena;
 use kinds::DirectSlot;
-use passages::Slot;
-use stack::FixedStack;
+use passages::{PointerSlot, Slot, open_directory};
 use std::io;
 use std::io::{Read, Write};
-use trails::{PointerSlot, ROOM, open_directories, open_register, run};
+use trails::{ROOM, open_directories, open_register, run};
 
 // One byte more than a season may have: so a longer one is seen, and not read whole.
 const MOST: u64 = 65_537;
@@ -28,7 +26,7 @@ fn main(rt: HostRuntime) -> io::Result<()> {
     let mut kept = vec![in heap; free; COMPRESSIONS * ROOM]?;
     let mut directories = open_directories(heap, kept.as_mut_slice())?;
     let mut joined: [PointerSlot; ROOM] = [DirectSlot::Free; ROOM];
-    let mut scratch = DirectArena::new(FixedStack::new(&mut joined));
+    let mut scratch = open_directory(&mut joined);
     let report = run(
         heap,
         &mut register,

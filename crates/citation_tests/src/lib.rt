@@ -6,13 +6,11 @@
 
 #[cfg(test)]
 mod tests {
-    use arena::DirectArena;
     use kinds::DirectSlot;
-    use passages::Slot;
-    use stack::FixedStack;
+    use passages::{PointerSlot, Slot, open_directory};
     use std::alloc::{AllocError, Global};
     use std::test::Fail;
-    use trails::{PointerSlot, ROOM, open_directories, open_register, run};
+    use trails::{ROOM, open_directories, open_register, run};
 
     const NAMES: &[u8] = b"call slot generation value\n";
 
@@ -29,7 +27,7 @@ mod tests {
         let mut lent = vec![in heap; free; kept]?;
         let mut directories = open_directories(heap, lent.as_mut_slice())?;
         let mut room = vec![in heap; free; joined]?;
-        let mut scratch = DirectArena::new(FixedStack::new(room.as_mut_slice()));
+        let mut scratch = open_directory(room.as_mut_slice());
         run(heap, &mut register, &mut directories, &mut scratch, input)
     }
 

@@ -23,6 +23,7 @@ of_runner (shared.Reserve n) = Err Unknown
 of_runner (shared.Limit n) = Err Unknown
 of_runner shared.Clear = Err Unknown
 of_runner shared.Compress = Ok Compress
+of_runner (shared.Recast s g) = Err Unknown
 
 -- what the runner reads in a line, in a season
 abbrev pub of_line : Result runner_call.Call LineError → Result Call LineError

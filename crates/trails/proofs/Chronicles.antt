@@ -1,17 +1,18 @@
 -- A chronicle goes on with each call.
-use Rattle.std.proofs.Common.{◌≡◌, ℕ, Bool, true, false, ◌&&◌, not, List, [], ◌∷◌, ◌++◌, map, sym, refl, ap, ◌∙◌, subst}
+use Rattle.std.proofs.Common.{◌≡◌, ℕ, Bool, true, false, ◌&&◌, not, List, [], ◌∷◌, ◌++◌, sym, refl, ap, ◌∙◌, subst}
 use Rattle.std.proofs.lemmas.List.{map-append}
-use Rattle.history.specs.Calls.{Call, compress, Entry, Step, Leads, still, next}
+use Rattle.history.specs.Calls.{compress, Entry, Step, Leads, still, next}
 use Rattle.history.specs.Directories.{Directory, Holds}
 use Rattle.history.specs.Laws.{standing_after}
 use Rattle.history.specs.Mapped.{records, report, kept}
 use Rattle.history.specs.Slots.{Slots, count}
-use Rattle.history.specs.Spans.{Span, is_compress, compresses, unbroken, ended, all_ended, up_to, Successive, directories}
+use Rattle.history.specs.Spans.{Span, compresses, unbroken, ended, all_ended, up_to, Successive}
 use Rattle.history.proofs.Runs.{stands}
 use Rattle.kinds.specs.Kinds.{season_alike}
 use Rattle.kinds.specs.declared.generation.SeasonGen.{SeasonGen}
 use Rattle.trails.specs.Chronicle.{OwnCopies, Chronicle, GoesOn}
-use Rattle.trails.specs.Reports.{Pointer, view, copied, Added}
+use Rattle.passages.specs.State.{Pointer, short_view}
+use Rattle.trails.specs.Reports.{copied, Added}
 
 pub new_chronicle : {s : Slots SeasonGen ℕ} → s ≡ [] → Chronicle [] s
 new_chronicle e = subst (λ s. Chronicle [] s) (sym e) (record { spans = []; later = []; leads = still; unbroken = refl; successive = tt; listed = refl; copies = tt })
@@ -23,7 +24,7 @@ all_ended_push : (xs : List SeasonSpan) (x : SeasonSpan) (h : List (Entry Season
 all_ended_push [] x h = refl
 all_ended_push (y ∷ ys) x h = all_ended_push ys x (ended y h)
 
-successive_push : (xs : List SeasonSpan) (x : SeasonSpan) (h : List (Entry SeasonGen ℕ)) → Successive view xs h → unbroken x.calls ≡ true → Holds view x.directory (report (standing_after (up_to x (all_ended xs h)))) → Successive view (xs ++ (x ∷ [])) h
+successive_push : (xs : List SeasonSpan) (x : SeasonSpan) (h : List (Entry SeasonGen ℕ)) → Successive short_view xs h → unbroken x.calls ≡ true → Holds short_view x.directory (report (standing_after (up_to x (all_ended xs h)))) → Successive short_view (xs ++ (x ∷ [])) h
 successive_push [] x h s u d = (u, d, tt)
 successive_push (y ∷ ys) x h s u d = (s.0, s.1, successive_push ys x (ended y h) s.2 u d)
 
@@ -54,7 +55,7 @@ module _ {ds : List (Directory SeasonGen Pointer)} {s t : Slots SeasonGen ℕ} w
         later = [];
         leads = subst (λ h. Leads season_alike h t) (sym (all_ended_push c.spans x [])) (next c.leads step);
         unbroken = refl;
-        successive = successive_push c.spans x [] c.successive c.unbroken (subst (λ hs. Holds view a.0 (report hs)) stood a.2);
+        successive = successive_push c.spans x [] c.successive c.unbroken (subst (λ hs. Holds short_view a.0 (report hs)) stood a.2);
         copies = subst OwnCopies (sym a.1) (copies_push ds a.0 c.copies a.3);
         listed = a.1 ∙ ap (λ l. l ++ (a.0 ∷ [])) c.listed ∙ sym (map-append (λ y. y.directory) c.spans (x ∷ []));
       }

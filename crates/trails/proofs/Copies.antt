@@ -1,6 +1,6 @@
 -- A directory that a compression filled is its own copy: no slot stands behind its last record.
-use Rattle.std.proofs.Common.{◌≡◌, ℕ, suc, ◌≤◌, Bool, true, List, [], ◌∷◌, map, sym, refl, ap, ◌∙◌, arith}
-use Rattle.history.specs.Calls.{Entry, insert, clear, bring, Step, Through, still, next, Leads}
+use Rattle.std.proofs.Common.{◌≡◌, ℕ, suc, ◌≤◌, true, List, [], ◌∷◌, map, sym, refl, ap, ◌∙◌, arith}
+use Rattle.history.specs.Calls.{Entry, insert, clear, bring, Through, still, next, Leads}
 use Rattle.history.specs.Directories.{Directory, entered, filling}
 use Rattle.history.specs.Mapped.{Pair, records, moving, pairs, report, settle, rising}
 use Rattle.history.specs.Roll.{standing, numbered}
@@ -9,7 +9,8 @@ use Rattle.history.proofs.Runs.{stands}
 use Rattle.kinds.specs.Kinds.{season_alike}
 use Rattle.kinds.specs.declared.generation.SeasonGen.{SeasonGen}
 use Rattle.kinds.specs.declared.slot.DirectSlot.TheVariants.{Free, Allocated}
-use Rattle.trails.specs.Reports.{Pointer, copied}
+use Rattle.passages.specs.State.{Pointer}
+use Rattle.trails.specs.Reports.{copied}
 
 rising_above : {G V : Type 0} (n m : ℕ) (hs : List (Held G V)) → m ≤ n → rising n hs ≡ true → rising m hs ≡ true
 rising_above n m [] l h = refl

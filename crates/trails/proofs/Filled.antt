@@ -1,5 +1,5 @@
 -- The directories of the first compressions, as one more is filled.
-use Rattle.std.proofs.Common.{◌≡◌, ℕ, suc, ◌+◌, ◌<◌, Bool, true, cond, List, [], ◌∷◌, ◌++◌, length, slice_set, sym, refl, ap, ◌∙◌}
+use Rattle.std.proofs.Common.{◌≡◌, ℕ, suc, ◌+◌, ◌<◌, Bool, true, cond, List, [], ◌∷◌, ◌++◌, length, slice_set, refl, ap, ◌∙◌}
 use Rattle.std.proofs.lemmas.List.{map-append, take_more_set, take-set}
 use Rattle.bulk.specs.Given.{given}
 use Rattle.bulk.proofs.Kept.{given_kept}
@@ -14,7 +14,8 @@ use Rattle.kinds.specs.declared.index.ShortInx.{ShortInx}
 use Rattle.kinds.specs.declared.slot.DirectSlot.{DirectSlot}
 use Rattle.stack.specs.Fixed.{fixed_list}
 use Rattle.stack.specs.declared.fixed.FixedStack.{FixedStack}
-use Rattle.trails.specs.Reports.{Pointer, reports_in, first_reports, copied}
+use Rattle.passages.specs.State.{Pointer}
+use Rattle.trails.specs.Reports.{reports_in, first_reports, copied}
 
 pub one_more : (ds : List (FixedStack (DirectSlot SeasonGen Pointer))) (n : ℕ) (d : FixedStack (DirectSlot SeasonGen Pointer)) → n < length ds → first_reports (n + 1) (slice_set ds n d) ≡ first_reports n ds ++ (fixed_list d ∷ [])
 one_more ds n d h = ap reports_in (take_more_set ds n d h) ∙ map-append (λ e. fixed_list e) _ (d ∷ [])

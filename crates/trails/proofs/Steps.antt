@@ -1,13 +1,13 @@
 -- A loop over the compressions since a citation.
-use Rattle.std.proofs.Common.{◌≡◌, ℕ, ◌+◌, ◌<◌, ◌≤◌, List, [], ◌∷◌, ◌++◌, length, drop, Some, None, Option, sym, refl, ap, ◌∙◌, append_assoc, append-nil, arith}
+use Rattle.std.proofs.Common.{◌≡◌, ℕ, ◌+◌, ◌≤◌, List, ◌∷◌, ◌++◌, length, drop, Some, None, Option, sym, ap, ◌∙◌, append_assoc, append-nil}
 use Rattle.std.proofs.lemmas.List.{drop_all}
-use Rattle.history.specs.Directories.{Directory}
 use Rattle.kinds.specs.declared.generation.SeasonGen.{SeasonGen}
 use Rattle.kinds.specs.declared.slot.DirectSlot.{DirectSlot}
 use Rattle.stack.specs.Fixed.{fixed_list}
 use Rattle.stack.specs.declared.fixed.FixedStack.{FixedStack}
 use Rattle.trails.specs.Lines.{written, moved_line, led_by, onward, steps_text, through, come_through}
-use Rattle.trails.specs.Reports.{Pointer, reports_in}
+use Rattle.passages.specs.State.{Pointer}
+use Rattle.trails.specs.Reports.{reports_in}
 
 -- out is written, at is the pointer that came so far, and what is left gives the whole
 pub record Sofar (ds : List (FixedStack (DirectSlot SeasonGen Pointer))) (before : ℕ) (p : Pointer) (out₀ : List ℕ) (n : ℕ) (at : Pointer) (out : List ℕ) : Type 0 where

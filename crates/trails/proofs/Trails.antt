@@ -6,7 +6,7 @@ use Rattle.history.specs.Slots.{Slots}
 use Rattle.kinds.specs.declared.generation.SeasonGen.{SeasonGen}
 use Rattle.outcome.specs.declared.errors.DirectoryError.{DirectoryError}
 use Rattle.trails.specs.Lines.{written, today_line, onward, steps_text, come_through}
-use Rattle.trails.specs.Reports.{Pointer}
+use Rattle.passages.specs.State.{Pointer}
 use Rattle.trails.specs.Today.{today_of, Answered, Told}
 use Rattle.trails.specs.declared.line.Line.TheVariants.{Cites}
 use Rattle.trails.specs.declared.trail.Citation.{Citation}

@@ -6,7 +6,8 @@ use Rattle.history.specs.Slots.{Slots}
 use Rattle.history.specs.Spans.{Span, all_ended, unbroken, Successive, directories}
 use Rattle.kinds.specs.Kinds.{season_alike}
 use Rattle.kinds.specs.declared.generation.SeasonGen.{SeasonGen}
-use Rattle.trails.specs.Reports.{Pointer, view, copied}
+use Rattle.passages.specs.State.{Pointer, short_view}
+use Rattle.trails.specs.Reports.{copied}
 
 -- each is its own copy
 abbrev pub OwnCopies : List (Directory SeasonGen Pointer) → Type 0
@@ -20,7 +21,7 @@ pub record Chronicle (ds : List (Directory SeasonGen Pointer)) (s : Slots Season
   pub later : List (Entry SeasonGen ℕ)
   pub leads : Leads season_alike (later ++ all_ended spans []) s
   pub unbroken : unbroken later ≡ true
-  pub successive : Successive view spans []
+  pub successive : Successive short_view spans []
   pub listed : ds ≡ directories spans
   pub copies : OwnCopies ds
 

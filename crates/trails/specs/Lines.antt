@@ -8,7 +8,7 @@ use Rattle.history.specs.Directories.{Directory, recast_by}
 use Rattle.kinds.specs.Kinds.{season_alike}
 use Rattle.kinds.specs.declared.generation.SeasonGen.{SeasonGen}
 use Rattle.outcome.specs.declared.errors.DirectoryError.{DirectoryError}
-use Rattle.trails.specs.Reports.{Pointer, view}
+use Rattle.passages.specs.State.{Pointer, short_view}
 use Rattle.trails.specs.declared.line.Line.{Line}
 use Rattle.trails.specs.declared.trail.Citation.{Citation}
 use Rattle.trails.specs.declared.line.Line.TheVariants.{NoSeason, Refused, Totals, Cites, Moved, Ended, Today, EndedToday, RefusedToday}
@@ -51,7 +51,7 @@ today_line p (Err e) = RefusedToday NoRoomForReport
 
 -- where a compression's directory leads a pointer
 abbrev pub led_by : Directory SeasonGen Pointer → Pointer → Option Pointer
-led_by d p = recast_by season_alike view d p
+led_by d p = recast_by season_alike short_view d p
 
 abbrev pub onward : (Pointer → List ℕ) → Option Pointer → List ℕ
 onward f None = []

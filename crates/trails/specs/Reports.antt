@@ -2,25 +2,15 @@
 use Rattle.std.specs.Prelude.{◌≡◌, ℕ, Bool, true, false, List, [], ◌∷◌, ◌++◌, map, take, All, Some, None, Ok, Err, Option, Result}
 use Rattle.answers.specs.Refusals.{number_of}
 use Rattle.answers.specs.declared.refusal.Refusal.{Refusal}
-use Rattle.arena.specs.Answers.{cited}
 use Rattle.history.specs.Directories.{Directory, Holds}
 use Rattle.history.specs.Mapped.{Pair, records, settle}
-use Rattle.history.specs.Slots.{Slots, Ptr, Held}
-use Rattle.kinds.specs.Kinds.{short_number}
+use Rattle.history.specs.Slots.{Held}
 use Rattle.kinds.specs.declared.generation.SeasonGen.{SeasonGen}
-use Rattle.kinds.specs.declared.index.ShortInx.{ShortInx}
-use Rattle.kinds.specs.declared.pointer.PtrOf.{PtrOf}
 use Rattle.kinds.specs.declared.slot.DirectSlot.{DirectSlot}
 use Rattle.outcome.specs.Outcome.{Outcome, done, refused}
+use Rattle.passages.specs.State.{Pointer, short_view}
 use Rattle.stack.specs.Fixed.{fixed_list}
 use Rattle.stack.specs.declared.fixed.FixedStack.{FixedStack}
-
-abbrev pub Pointer : Type 0
-Pointer = PtrOf ShortInx SeasonGen
-
--- a pointer as a slot and a generation
-abbrev pub view : Pointer → Ptr SeasonGen
-view p = cited {P = Pointer} short_number (λ q. q.inx) (λ q. q.generation) p
 
 -- carried out, or refused under a number
 abbrev pub of_call : {X : Type 0} → Result X Refusal → Outcome X
@@ -50,5 +40,5 @@ copied d = settle [] (records d)
 -- An accepted compression adds a directory behind those filled before, which holds just its report and is its own copy; a
 -- refused one leaves them as they are.
 abbrev pub Added : Bool → List (Pair SeasonGen SeasonGen) → (ds es : List (Directory SeasonGen Pointer)) → Type 0
-Added true ps ds es = (d : Directory SeasonGen Pointer) × (es ≡ ds ++ (d ∷ [])) × Holds view d ps × (copied d ≡ d)
+Added true ps ds es = (d : Directory SeasonGen Pointer) × (es ≡ ds ++ (d ∷ [])) × Holds short_view d ps × (copied d ≡ d)
 Added false ps ds es = es ≡ ds

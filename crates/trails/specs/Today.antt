@@ -1,7 +1,7 @@
 -- Where a citation leads today.
-use Rattle.std.specs.Prelude.{◌≡◌, ℕ, List, [], ◌∷◌, ◌++◌, drop, Some, None, Ok, Err, Option, Result}
+use Rattle.std.specs.Prelude.{◌≡◌, ℕ, List, [], ◌∷◌, ◌++◌, drop, Some, Ok, Err, Option, Result}
 use Rattle.directory.specs.Find.{looked_up, led_to}
-use Rattle.history.specs.Directories.{Directory, recast_by, joined_with}
+use Rattle.history.specs.Directories.{Directory, joined_with}
 use Rattle.history.specs.Slots.{Slots}
 use Rattle.history.specs.Spans.{Span, all_ended, directories, Traced, Promise}
 use Rattle.kinds.specs.Kinds.{season_alike}
@@ -11,25 +11,26 @@ use Rattle.outcome.specs.declared.errors.DirectoryError.{DirectoryError}
 use Rattle.stack.specs.declared.fixed.FixedStack.{FixedStack}
 use Rattle.trails.specs.Chronicle.{Chronicle}
 use Rattle.trails.specs.Lines.{trail_text}
-use Rattle.trails.specs.Reports.{Pointer, view, reports_in, copied}
+use Rattle.passages.specs.State.{Pointer, short_view}
+use Rattle.trails.specs.Reports.{reports_in, copied}
 use Rattle.trails.specs.declared.trail.Citation.{Citation}
 
 -- a directory joined with all these, one after the other
 abbrev pub joined_on : Directory SeasonGen Pointer → List (Directory SeasonGen Pointer) → Directory SeasonGen Pointer
 joined_on d [] = d
-joined_on d (e ∷ es) = joined_on (joined_with season_alike view d e) es
+joined_on d (e ∷ es) = joined_on (joined_with season_alike short_view d e) es
 
 -- by the reports of the compressions since; with none, the pointer itself
 abbrev pub today_of : Slots SeasonGen ℕ → List (Directory SeasonGen Pointer) → Pointer → Option (Pointer × ℕ)
-today_of s [] p = looked_up season_alike view s (Some p)
-today_of s (d ∷ ds) p = led_to season_alike view s (joined_on (copied d) ds) p
+today_of s [] p = looked_up season_alike short_view s (Some p)
+today_of s (d ∷ ds) p = led_to season_alike short_view s (joined_on (copied d) ds) p
 
 -- What holds of the register and of the joined directories, whichever histories led to them. And where these are the
 -- directories of the last spans of a chronicle: of a pointer given in the first of these spans, what is said of a join.
 pub record Promised (s : Slots SeasonGen ℕ) (d : Directory SeasonGen Pointer) (ds : List (Directory SeasonGen Pointer)) : Type 0 where
-  pub whole : Promise season_alike view (joined_on (copied d) ds) s
+  pub whole : Promise season_alike short_view (joined_on (copied d) ds) s
   pub traced : (front : List (Directory SeasonGen Pointer)) (c : Chronicle (front ++ (d ∷ ds)) s) (before : List (Span SeasonGen ℕ Pointer)) (x : Span SeasonGen ℕ Pointer) (xs : List (Span SeasonGen ℕ Pointer)) →
-      c.spans ≡ before ++ (x ∷ xs) → d ∷ ds ≡ directories (x ∷ xs) → Traced season_alike view (joined_on (copied d) ds) s x xs (all_ended before []) c.later
+      c.spans ≡ before ++ (x ∷ xs) → d ∷ ds ≡ directories (x ∷ xs) → Traced season_alike short_view (joined_on (copied d) ds) s x xs (all_ended before []) c.later
 
 abbrev pub PromiseToday : Slots SeasonGen ℕ → List (Directory SeasonGen Pointer) → Type 0
 PromiseToday s [] = Unit {0}

@@ -4,39 +4,39 @@ ghost use Rattle.answers.specs.Refusals.{number_of};
 ghost use Rattle.history.specs.Calls.{insert as insertion, edit as editing, remove as removal, compress as compression, pointer as by_pointer, went, entry, Step};
 ghost use Rattle.history.specs.Mapped.{records, report, kept};
 ghost use Rattle.kinds.specs.Kinds.{season_alike};
-ghost use Rattle.passages.specs.State.{state_of, capacity_of};
+ghost use Rattle.passages.specs.State.{register_of, capacity_of};
 ghost use Rattle.slots.specs.Inserted.{insert_answer};
 ghost use Rattle.slots.specs.Records.{found};
-ghost use Rattle.trails.specs.Reports.{view, of_call, held_or_not, first_reports, Added};
+ghost use Rattle.passages.specs.State.{short_view};
+ghost use Rattle.trails.specs.Reports.{of_call, held_or_not, first_reports, Added};
 
-use crate::directories::Directory;
 use answers::refusal::Refusal;
 use directory::compress_into;
 use mapper::KeepValues;
-use passages::register::{Pointer, Register};
+use passages::{Directory, Pointer, Register};
 
 pub(crate) fn insert(register: &mut Register<'_>, p: Pointer, value: u32) -> Result<(), Refusal>
-    ensures answer { of_call result ≡ insert_answer (capacity_of (state_of register.old)) (view p) (state_of register.old).slots }
-    ensures step { Step season_alike (entry (insertion (view p) value) (of_call result)) (state_of register.old).slots (state_of register.new).slots }
-    ensures room { capacity_of (state_of register.new) ≡ capacity_of (state_of register.old) }
+    ensures answer { of_call result ≡ insert_answer (capacity_of (register_of register.old)) (short_view p) (register_of register.old).slots }
+    ensures step { Step season_alike (entry (insertion (short_view p) value) (of_call result)) (register_of register.old).slots (register_of register.new).slots }
+    ensures room { capacity_of (register_of register.new) ≡ capacity_of (register_of register.old) }
 {
     register.direct_insert_within_capacity(p, value)?;
     Ok(())
 }
 
 pub(crate) fn remove(register: &mut Register<'_>, p: Pointer) -> Result<(), Refusal>
-    ensures answer { of_call result ≡ held_or_not (found season_alike (view p) (state_of register.old).slots) }
-    ensures step { Step season_alike (entry (removal (by_pointer (view p))) (of_call result)) (state_of register.old).slots (state_of register.new).slots }
-    ensures room { capacity_of (state_of register.new) ≡ capacity_of (state_of register.old) }
+    ensures answer { of_call result ≡ held_or_not (found season_alike (short_view p) (register_of register.old).slots) }
+    ensures step { Step season_alike (entry (removal (by_pointer (short_view p))) (of_call result)) (register_of register.old).slots (register_of register.new).slots }
+    ensures room { capacity_of (register_of register.new) ≡ capacity_of (register_of register.old) }
 {
     let _ = register.remove(p).allow().ok_or(Refusal::NotFound)?;
     Ok(())
 }
 
 pub(crate) fn edit(register: &mut Register<'_>, p: Pointer, value: u32) -> Result<(), Refusal>
-    ensures answer { of_call result ≡ held_or_not (found season_alike (view p) (state_of register.old).slots) }
-    ensures step { Step season_alike (entry (editing (by_pointer (view p)) value) (of_call result)) (state_of register.old).slots (state_of register.new).slots }
-    ensures room { capacity_of (state_of register.new) ≡ capacity_of (state_of register.old) }
+    ensures answer { of_call result ≡ held_or_not (found season_alike (short_view p) (register_of register.old).slots) }
+    ensures step { Step season_alike (entry (editing (by_pointer (short_view p)) value) (of_call result)) (register_of register.old).slots (register_of register.new).slots }
+    ensures room { capacity_of (register_of register.new) ≡ capacity_of (register_of register.old) }
 {
     let _ = register.edit(p, value).ok_or(Refusal::NotFound)?;
     Ok(())
@@ -48,10 +48,10 @@ pub(crate) fn compress(
     directories: &mut Vec<Directory<'_>>,
     filled: &mut usize,
 ) -> Result<(), Refusal>
-    ensures step { Step season_alike (entry (compression kept) (of_call result)) (state_of register.old).slots (state_of register.new).slots }
+    ensures step { Step season_alike (entry (compression kept) (of_call result)) (register_of register.old).slots (register_of register.new).slots }
     ensures only { IfErr result (λ r. number_of r ≡ 10) }
-    ensures added { Added (went (of_call result)) (report (records (state_of register.old).slots)) (first_reports filled.old directories.old.items) (first_reports filled.new directories.new.items) }
-    ensures room { capacity_of (state_of register.new) ≡ capacity_of (state_of register.old) }
+    ensures added { Added (went (of_call result)) (report (records (register_of register.old).slots)) (first_reports filled.old directories.old.items) (first_reports filled.new directories.new.items) }
+    ensures room { capacity_of (register_of register.new) ≡ capacity_of (register_of register.old) }
 {
     let directory = directories
         .get_mut(*filled)
@@ -63,7 +63,7 @@ pub(crate) fn compress(
 
 // A paper cites only what the register holds.
 pub(crate) fn cite(register: &Register<'_>, p: Pointer) -> Result<(), Refusal>
-    ensures { of_call result ≡ held_or_not (found season_alike (view p) (state_of register.now).slots) }
+    ensures { of_call result ≡ held_or_not (found season_alike (short_view p) (register_of register.now).slots) }
 {
     if !register.contains(p) {
         return Err(Refusal::NotFound);

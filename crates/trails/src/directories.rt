@@ -2,16 +2,8 @@
 ghost use Rattle.std.specs.Prelude.{IfOk};
 ghost use Rattle.trails.specs.Reports.{Opened};
 
-use arena::DirectArena;
-use kinds::{DirectSlot, SeasonGen};
-use passages::Pointer;
-use stack::FixedStack;
+use passages::{Directory, PointerSlot, open_directory};
 use std::alloc::{AllocError, Global};
-
-pub type PointerSlot = DirectSlot<SeasonGen, Pointer>;
-
-/// At each old pointer of a compression the new one.
-pub type Directory<'a> = DirectArena<Pointer, Pointer, FixedStack<'a, PointerSlot>>;
 
 /// The slots of a directory, as many as a register has at most.
 pub const ROOM: usize = 256;
@@ -25,7 +17,7 @@ pub fn open_directories<'a>(
 {
     let mut directories = Vec::new(heap);
     for part in slots.chunks_mut(ROOM) {
-        directories.push(DirectArena::new(FixedStack::new(part)))?;
+        directories.push(open_directory(part))?;
     }
     Ok(directories)
 }

@@ -11,6 +11,6 @@ pub mod register;
 pub mod seasons;
 pub mod trail;
 
-pub use directories::{Directory, PointerSlot, ROOM, open_directories};
+pub use directories::{ROOM, open_directories};
 pub use register::open_register;
 pub use seasons::run;

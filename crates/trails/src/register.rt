@@ -1,12 +1,12 @@
 // The register of a season.
 ghost use Rattle.std.specs.Prelude.{◌≡◌, []};
-ghost use Rattle.passages.specs.State.{state_of};
+ghost use Rattle.passages.specs.State.{register_of};
 
 use passages::{Register, Slot, open};
 
 /// An empty register with room for all slots that the caller lends: a season asks for no capacity.
 pub fn open_register<'a>(slots: &'a mut [Slot]) -> Register<'a>
-    ensures { (state_of result).slots ≡ [] }
+    ensures { (register_of result).slots ≡ [] }
 {
     let lent = slots.len();
     let mut register = open(slots);

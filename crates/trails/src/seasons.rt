@@ -1,6 +1,6 @@
 // A season from its first line to its last, and then the trails of its citations.
 ghost use Rattle.std.specs.Prelude.{◌≡◌, [], IfOk, OnOk, string_bytes};
-ghost use Rattle.passages.specs.State.{state_of};
+ghost use Rattle.passages.specs.State.{register_of};
 ghost use Rattle.trails.specs.Chronicle.{GoesOn, Ran};
 ghost use Rattle.trails.specs.Answers.{Gets};
 ghost use Rattle.trails.specs.Reports.{of_call, reports_in, first_reports};
@@ -8,12 +8,11 @@ ghost use Rattle.trails.specs.Season.{lines_in, season_of};
 ghost use Rattle.trails.specs.Today.{AllTold};
 
 use crate::calls;
-use crate::directories::Directory;
 use crate::line::Line;
 use crate::trail::{Citation, add_trail};
 use answers::refusal::Refusal;
 use lines::error::LineError;
-use passages::register::{Pointer, Register, pointer};
+use passages::{Directory, Pointer, Register, pointer};
 use season::call::Call;
 use season::parse::parse;
 use std::alloc::{AllocError, Global};
@@ -29,8 +28,8 @@ fn carry_out(
     filled: &mut usize,
     line: Result<Call, LineError>,
 ) -> Result<Option<Pointer>, Refusal>
-    ensures answer { Gets (state_of register.old) line (of_call result) }
-    ensures chronicle { GoesOn (first_reports filled.old directories.old.items) (first_reports filled.new directories.new.items) (state_of register.old).slots (state_of register.new).slots }
+    ensures answer { Gets (register_of register.old) line (of_call result) }
+    ensures chronicle { GoesOn (first_reports filled.old directories.old.items) (first_reports filled.new directories.new.items) (register_of register.old).slots (register_of register.new).slots }
 {
     match line? {
         Call::Insert {
@@ -84,7 +83,7 @@ fn add_season(
     directories: &mut Vec<Directory<'_>>,
     lines: &[u8],
 ) -> Result<usize, AllocError>
-    ensures { IfOk result (λ n. GoesOn [] (first_reports n directories.new.items) (state_of register.old).slots (state_of register.new).slots) }
+    ensures { IfOk result (λ n. GoesOn [] (first_reports n directories.new.items) (register_of register.old).slots (register_of register.new).slots) }
 {
     let mut filled = 0;
     let mut number: usize = 1;
@@ -103,7 +102,7 @@ fn add_trails(
     directories: &[Directory<'_>],
     citations: &[Citation],
 ) -> Result<(), AllocError>
-    ensures { OnOk result (AllTold (state_of register.now).slots directories.now citations.now (string_bytes out.old) (string_bytes out.new)) }
+    ensures { OnOk result (AllTold (register_of register.now).slots directories.now citations.now (string_bytes out.old) (string_bytes out.new)) }
 {
     for citation in citations {
         add_trail(out, register, scratch, directories, *citation)?;
@@ -131,7 +130,7 @@ fn add_all(
     scratch: &mut Directory<'_>,
     lines: &[u8],
 ) -> Result<(), AllocError>
-    ensures { OnOk result (GoesOn [] (reports_in directories.new.items) (state_of register.old).slots (state_of register.new).slots) }
+    ensures { OnOk result (GoesOn [] (reports_in directories.new.items) (register_of register.old).slots (register_of register.new).slots) }
 {
     let mut citations = Vec::new(heap);
     let compressions = add_season(out, &mut citations, register, directories, lines)?;
@@ -161,7 +160,7 @@ pub fn run(
     scratch: &mut Directory<'_>,
     input: &[u8],
 ) -> Result<String, AllocError>
-    ensures { OnOk result (Ran (season_of input.now) (reports_in directories.new.items) (state_of register.old).slots (state_of register.new).slots) }
+    ensures { OnOk result (Ran (season_of input.now) (reports_in directories.new.items) (register_of register.old).slots (register_of register.new).slots) }
 {
     let mut out = String::new(heap);
     match after_names(input) {

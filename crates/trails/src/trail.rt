@@ -1,18 +1,17 @@
 // The trail of a citation: what became of its pointer at each compression since, and what it leads to today.
 ghost use Rattle.std.specs.Prelude.{◌≡◌, ◌++◌, IfOk, OnOk, drop, string_bytes};
-ghost use Rattle.passages.specs.State.{state_of};
+ghost use Rattle.passages.specs.State.{register_of};
 ghost use Rattle.stack.specs.Fixed.{fixed_list};
 ghost use Rattle.trails.specs.Lines.{moved_line, today_line, led_by, steps_text, come_through};
 ghost use Rattle.trails.specs.Reports.{reports_in, copied};
 ghost use Rattle.trails.specs.Today.{joined_on, Answered, PromiseToday, Told};
 
-use crate::directories::Directory;
 use crate::line::Line;
 use answers::refusal::Refusal;
 use directory::find::find;
 use mapper::{KeepValues, Recaster};
 use outcome::DirectoryError;
-use passages::{Pointer, Register};
+use passages::{Directory, Pointer, Register};
 use std::alloc::AllocError;
 
 /// A paper's citation: the line at which it was written, the pointer, and how many compressions came before it.
@@ -100,8 +99,8 @@ pub fn today(
     since: &[Directory<'_>],
     p: Pointer,
 ) -> Result<Option<(Pointer, u32)>, DirectoryError>
-    ensures answer { Answered (state_of register.now).slots (reports_in since.now) p result }
-    ensures promise { OnOk result (PromiseToday (state_of register.now).slots (reports_in since.now)) }
+    ensures answer { Answered (register_of register.now).slots (reports_in since.now) p result }
+    ensures promise { OnOk result (PromiseToday (register_of register.now).slots (reports_in since.now)) }
 {
     match since.split_first() {
         Some((first, rest)) => {
@@ -131,7 +130,7 @@ pub fn add_trail(
     directories: &[Directory<'_>],
     citation: Citation,
 ) -> Result<(), AllocError>
-    ensures { OnOk result (Told (state_of register.now).slots (reports_in (drop citation.before directories.now)) citation (string_bytes out.old) (string_bytes out.new)) }
+    ensures { OnOk result (Told (register_of register.now).slots (reports_in (drop citation.before directories.now)) citation (string_bytes out.old) (string_bytes out.new)) }
 {
     writeln!(
         out,

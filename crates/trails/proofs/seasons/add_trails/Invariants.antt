@@ -1,7 +1,7 @@
 use Rattle.std.proofs.Common.{ℕ, List, drop, string_bytes}
-use Rattle.passages.specs.State.{state_of}
+use Rattle.passages.specs.State.{register_of}
 use Rattle.trails.specs.Today.{AllTold}
 use Rattle.trails.proofs.seasons.add_trails.Given as goal
 
 abbrev pub invariant-loop-citation : goal.invariant-loop-citation
-invariant-loop-citation l = (end : List ℕ) → AllTold (state_of l.register).slots l.directories (drop l.citation-index l.citations) (string_bytes l.out) end → AllTold (state_of l.register).slots l.directories l.citations (string_bytes l.initial.out) end
+invariant-loop-citation l = (end : List ℕ) → AllTold (register_of l.register).slots l.directories (drop l.citation-index l.citations) (string_bytes l.out) end → AllTold (register_of l.register).slots l.directories l.citations (string_bytes l.initial.out) end

@@ -1,4 +1,3 @@
-use Rattle.std.proofs.Common.{rules}
 use Rattle.trails.proofs.Chronicles.{call_more, compression_more, never_both}
 use Rattle.trails.proofs.seasons.carry_out.Goals as goal
 

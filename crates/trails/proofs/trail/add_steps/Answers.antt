@@ -1,4 +1,4 @@
-use Rattle.std.proofs.Common.{rules, arith, ◌≡◌, ◌+◌, ◌∷◌, drop, refl}
+use Rattle.std.proofs.Common.{rules, arith, refl}
 use Rattle.std.proofs.lemmas.List.{drop_more}
 use Rattle.trails.proofs.Steps.{one_step, last_text, last_end, all_text, all_end}
 use Rattle.trails.proofs.trail.add_steps.Goals as goal

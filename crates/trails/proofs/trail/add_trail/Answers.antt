@@ -1,5 +1,5 @@
 use Rattle.std.proofs.Common.{rules, drop, ◌++◌, string_bytes, subst, ap, ◌∙◌}
-use Rattle.passages.specs.State.{state_of}
+use Rattle.passages.specs.State.{register_of}
 use Rattle.trails.specs.Lines.{written}
 use Rattle.trails.specs.Reports.{reports_in}
 use Rattle.trails.specs.Today.{Answered}
@@ -9,11 +9,11 @@ use Rattle.trails.proofs.trail.add_trail.Goals as goal
 pub returns-in_default : goal.returns-in_default
 returns-in_default c =
     let since = reports_in (drop c.args.citation.before c.args.directories.now) in
-    ended (state_of c.args.register.now).slots since c.args.citation (string_bytes c.args.out.now) _ _ c.in_ok-writeln.ensures.bytes c.in_ok-at.ensures.text (search rules)
+    ended (register_of c.args.register.now).slots since c.args.citation (string_bytes c.args.out.now) _ _ c.in_ok-writeln.ensures.bytes c.in_ok-at.ensures.text (search rules)
 
 pub returns : goal.returns
 returns c =
-    let s = (state_of c.args.register.now).slots in
+    let s = (register_of c.args.register.now).slots in
     let ds = c.args.directories.now in
     let cut = behind c.args.citation.before c.min.result ds (search rules) in
     let a = subst (λ xs. Answered s (reports_in xs) c.args.citation.pointer c.today-answer.result) cut c.today-answer.ensures.answer in
