@@ -1,11 +1,13 @@
 #!/usr/bin/env bash
-# Builds the register, runs it on the sample script, and prints each call beside its answer.
+# Builds the program `citation`, prints its sample season with the lines' numbers, and then what the program says of it.
 set -eu
-cd "$(dirname "$0")/crates/register"
-answers=$(mktemp)
+cd "$(dirname "$0")/crates/citation"
+said=$(mktemp)
 log=$(mktemp)
-trap 'rm -f "$answers" "$log"' EXIT
-rt run < stdin > "$answers" 2> "$log" || { cat "$log" "$answers" >&2; exit 1; }
-paste <(cat stdin; echo) "$answers" | while IFS=$'\t' read -r call answer; do
-  printf '%-30s %s\n' "$call" "$answer"
-done
+trap 'rm -f "$said" "$log"' EXIT
+rt run < stdin > "$said" 2> "$log" || { cat "$log" "$said" >&2; exit 1; }
+echo 'The season:'
+cat -n stdin
+echo
+echo 'What citation says of it:'
+cat "$said"
