@@ -52,6 +52,7 @@ fn is_shared(name: &[u8]) -> bool
 pub fn parse(line: &[u8]) -> Result<Call, LineError>
     ensures meaning { result ≡ meaning line.now }
     ensures only { (c : Call) → result ≡ Ok c → InRange c × (line.now ≡ call_text c) }
+    ensures each { (c : Call) → InRange c → line.now ≡ call_text c → result ≡ Ok c }
 {
     if line.len() > LONGEST {
         return Err(LineError::Unknown); // no call has so long a text
