@@ -1,1 +1,2 @@
 pub mod Meaning
+pub mod Texts

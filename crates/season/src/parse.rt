@@ -1,9 +1,10 @@
 // What a line of a season means.
-ghost use Rattle.std.specs.Prelude.{◌≡◌};
+ghost use Rattle.std.specs.Prelude.{◌≡◌, Ok};
 ghost use Rattle.text.specs.Fields.{four_in};
 ghost use Rattle.text.specs.Number.{field_of};
 ghost use Rattle.lines.specs.Meaning.{field_or_unfit};
 ghost use Rattle.season.specs.Meaning.{is_shared, cited_by, meaning};
+ghost use Rattle.season.specs.Texts.{InRange, call_text};
 
 use crate::call::{Call, of_runner};
 use lines::error::LineError;
@@ -50,6 +51,8 @@ fn is_shared(name: &[u8]) -> bool
 /// The name is looked at first: the runner's other calls are unknown here, whatever their fields.
 pub fn parse(line: &[u8]) -> Result<Call, LineError>
     ensures meaning { result ≡ meaning line.now }
+    ensures only { (c : Call) → result ≡ Ok c → InRange c × (line.now ≡ call_text c) }
+    ensures each { (c : Call) → InRange c → line.now ≡ call_text c → result ≡ Ok c }
 {
     if line.len() > LONGEST {
         return Err(LineError::Unknown); // no call has so long a text

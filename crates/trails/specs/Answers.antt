@@ -1,5 +1,6 @@
 -- What a line of a season gets.
-use Rattle.std.specs.Prelude.{◌≡◌, ◌⊎◌, Some, None, Ok, Err, Option, Result}
+use Rattle.std.specs.Prelude.{◌≡◌, ℕ, ◌⊎◌, List, [], ◌∷◌, ◌++◌, Some, None, Ok, Err, Option, Result}
+use Rattle.answers.specs.declared.refusal.Refusal.{Refusal}
 use Rattle.history.specs.Records.{found}
 use Rattle.kinds.specs.Kinds.{season_alike}
 use Rattle.lines.specs.Meaning.{line_number}
@@ -10,7 +11,10 @@ use Rattle.season.specs.declared.call.Call.{Call}
 use Rattle.season.specs.declared.call.Call.TheVariants.{Insert, Remove, Edit, Compress, Cite}
 use Rattle.slots.specs.Inserted.{insert_answer}
 use Rattle.passages.specs.State.{Pointer, short_view}
+use Rattle.trails.specs.Lines.{written}
 use Rattle.trails.specs.Reports.{held_or_not}
+use Rattle.trails.specs.declared.line.Line.TheVariants.{Refused}
+use Rattle.trails.specs.declared.trail.Citation.{Citation}
 
 -- an accepted call gives this to be noted
 abbrev pub noted : Option Pointer → Outcome (Unit {0}) → Outcome (Option Pointer)
@@ -26,3 +30,9 @@ Gets st (Ok (Edit s g v)) o = o ≡ noted None (held_or_not (found season_alike 
 Gets st (Ok Compress) o = (o ≡ done None) ⊎ (o ≡ refused 10)
 Gets st (Ok (Cite s g)) o = o ≡ noted (Some (pointer_at s g)) (held_or_not (found season_alike (short_view (pointer_at s g)) st.slots))
 Gets st (Err e) o = o ≡ refused (line_number e)
+
+-- What becomes of the text and of the citations at a line that gets this answer, so many compressions having come before.
+abbrev pub Notes : (line before : ℕ) → Result (Option Pointer) Refusal → (cs ds : List Citation) (out grown : List ℕ) → Type 0
+Notes line before (Ok None) cs ds out grown = (ds ≡ cs) × (grown ≡ out)
+Notes line before (Ok (Some p)) cs ds out grown = (ds ≡ cs ++ (record { line = line; pointer = p; before = before } ∷ [])) × (grown ≡ out)
+Notes line before (Err r) cs ds out grown = (ds ≡ cs) × (grown ≡ out ++ written (Refused line r))

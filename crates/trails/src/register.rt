@@ -1,12 +1,15 @@
 // The register of a season.
 ghost use Rattle.std.specs.Prelude.{◌≡◌, []};
 ghost use Rattle.passages.specs.State.{register_of};
+ghost use Rattle.trails.specs.Chronicle.{Chronicle};
 
 use passages::{Register, Slot, open};
 
 /// An empty register with room for all slots that the caller lends: a season asks for no capacity.
+#[tactic(auto, using(crate::proofs::Chronicles::new_chronicle))]
 pub fn open_register<'a>(slots: &'a mut [Slot]) -> Register<'a>
-    ensures { (register_of result).slots ≡ [] }
+    ensures slots { (register_of result).slots ≡ [] }
+    ensures chronicle { Chronicle [] (register_of result).slots }
 {
     let lent = slots.len();
     let mut register = open(slots);

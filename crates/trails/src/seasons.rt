@@ -2,7 +2,7 @@
 ghost use Rattle.std.specs.Prelude.{◌≡◌, [], IfOk, OnOk, string_bytes};
 ghost use Rattle.passages.specs.State.{register_of};
 ghost use Rattle.trails.specs.Chronicle.{GoesOn, Ran};
-ghost use Rattle.trails.specs.Answers.{Gets};
+ghost use Rattle.trails.specs.Answers.{Gets, Notes};
 ghost use Rattle.trails.specs.Reports.{of_call, reports_in, first_reports};
 ghost use Rattle.trails.specs.Season.{lines_in, season_of};
 ghost use Rattle.trails.specs.Today.{AllTold};
@@ -60,7 +60,9 @@ fn note(
     line: usize,
     before: usize,
     answer: Result<Option<Pointer>, Refusal>,
-) -> Result<(), AllocError> {
+) -> Result<(), AllocError>
+    ensures { OnOk result (Notes line before answer citations.old.items citations.new.items (string_bytes out.old) (string_bytes out.new)) }
+{
     match answer {
         Ok(None) => Ok(()),
         Ok(Some(pointer)) => {

@@ -1,0 +1,2 @@
+pub mod EachText
+pub mod Texts
