@@ -1,13 +1,17 @@
 #!/usr/bin/env bash
-# Builds the program `citation`, prints its sample season with the lines' numbers, and then what the program says of it.
+# Builds a program, runs it on its sample, and prints what went in and what came out: `citation`, or the one that is named.
 set -eu
-cd "$(dirname "$0")/crates/citation"
+program=${1:-citation}
+cd "$(dirname "$0")/crates/$program"
 said=$(mktemp)
 log=$(mktemp)
 trap 'rm -f "$said" "$log"' EXIT
 rt run < stdin > "$said" 2> "$log" || { cat "$log" "$said" >&2; exit 1; }
-echo 'The season:'
-cat -n stdin
-echo
-echo 'What citation says of it:'
-cat "$said"
+if [[ $program == register ]]; then # an answer for each line
+  paste <(cat stdin; echo) "$said" | while IFS=$'\t' read -r call answer; do
+    printf '%-30s %s\n' "$call" "$answer"
+  done
+else
+  printf 'What went in:\n%s\n\nWhat %s says of it:\n' "$(cat -n stdin)" "$program"
+  cat "$said"
+fi
