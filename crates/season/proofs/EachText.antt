@@ -1,23 +1,22 @@
 -- The text of a call in range asks for it.
-use Rattle.std.proofs.Common.{◌≡◌, ℕ, ◌+◌, ◌^◌, ◌<◌, ◌≤◌, Bool, true, false, cond, ◌&&◌, eqb, List, [], ◌∷◌, ◌++◌, length, Some, None, Ok, Err, codes, Result, decimal, sym, refl, ap, ◌∙◌, subst, arith, length-append}
+use Rattle.std.proofs.Common.{◌≡◌, ℕ, ◌+◌, ◌^◌, ◌<◌, ◌≤◌, Bool, true, false, cond, ◌&&◌, eqb, List, [], ◌∷◌, ◌++◌, length, Some, Ok, Err, codes, Result, decimal, sym, refl, ap, ◌∙◌, subst, arith, length-append}
 use Rattle.std.specs.Char.{is_ascii_digit}
 use Rattle.std.specs.Str.{bytes_eq, all_ascii_digits}
 use Rattle.std.proofs.lemmas.Fmt.{digits_decimal, length-decimal-le}
 use Rattle.std.proofs.lemmas.Slice.Eq.{bytes_eq-Decides}
 use Rattle.std.proofs.lemmas.Bool.{cond-false, ne_eqb, and_parts, false≢true, le-ltb}
 use Rattle.lines.specs.Call.{fits, number_in}
-use Rattle.lines.specs.Meaning as runner
 use Rattle.lines.specs.Texts.{row, blank}
 use Rattle.lines.specs.declared.call.Call.TheVariants as shared
 use Rattle.lines.specs.declared.error.LineError.{LineError}
 use Rattle.lines.specs.declared.error.LineError.TheVariants.{Unfit}
 use Rattle.lines.proofs.EachText.{each_asks}
-use Rattle.season.specs.Meaning.{of_line, cited_by, with_name, meaning}
+use Rattle.season.specs.Meaning.{of_line, with_name, meaning}
 use Rattle.season.specs.Texts.{call_text, InRange}
 use Rattle.season.specs.declared.call.Call.{Call}
 use Rattle.season.specs.declared.call.Call.TheVariants.{Insert, Remove, Edit, Compress, Cite}
 use Rattle.text.specs.Number.{numeral, number_or, field_of}
-use Rattle.text.specs.Split.{Four, onto, split, four_of}
+use Rattle.text.specs.Split.{onto, split, four_of}
 use Rattle.text.proofs.Exact.{own, never, numeral_reads, all_decimals}
 
 -- no space among the bytes

@@ -37,6 +37,7 @@ of_runner_only line (shared.Trim n) c h e = absurd (err_ok Unknown c e)
 of_runner_only line (shared.Reserve n) c h e = absurd (err_ok Unknown c e)
 of_runner_only line (shared.Limit n) c h e = absurd (err_ok Unknown c e)
 of_runner_only line shared.Clear c h e = absurd (err_ok Unknown c e)
+of_runner_only line (shared.Recast s g) c h e = absurd (err_ok Unknown c e)
 of_runner_only line shared.Compress c h e = let same : Compress ≡ c = cc in subst (Only line) same h
 
 of_line_only : (line : List ℕ) (r : Result runner_call.Call LineError) (c : Call) → r ≡ runner.meaning line → of_line r ≡ Ok c → Only line c
