@@ -4,3 +4,4 @@ pub mod Filled
 pub mod Steps
 pub mod Today
 pub mod Trails
+pub mod Goings

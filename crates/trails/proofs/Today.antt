@@ -46,9 +46,9 @@ joined_of b (e ∷ es) = joined_of (both b (one e)) es
 all_promised : (s : Slots SeasonGen ℕ) (d : Directory SeasonGen Pointer) (ds : List (Directory SeasonGen Pointer)) → Promise season_alike short_view (joined_on (copied d) ds) s → Promised s d ds
 all_promised s d ds p = record {
   whole = p;
-  traced = λ front c before x xs parts since.
+  traced = λ h front c before x xs parts since.
       p.traced x xs (all_ended before []) c.later
-      (subst (λ h. Leads season_alike (c.later ++ h) s) (ap (λ l. all_ended l []) parts ∙ all_ended_append before (x ∷ xs) []) c.leads)
+      (subst (λ k. Leads season_alike (c.later ++ k) s) (ap (λ l. all_ended l []) parts ∙ all_ended_append before (x ∷ xs) []) c.leads)
       (opens_ended before [] refl)
       (successive_after before (x ∷ xs) [] (subst (λ l. Successive short_view l []) parts c.successive))
       (bracket (one d) ds)

@@ -1,6 +1,7 @@
 -- Where a citation leads today.
 use Rattle.std.specs.Prelude.{◌≡◌, ℕ, List, [], ◌∷◌, ◌++◌, drop, Some, Ok, Err, Option, Result}
 use Rattle.directory.specs.Find.{looked_up, led_to}
+use Rattle.history.specs.Calls.{Entry}
 use Rattle.history.specs.Directories.{Directory, joined_with}
 use Rattle.history.specs.Slots.{Slots}
 use Rattle.history.specs.Spans.{Span, all_ended, directories, Traced, Promise}
@@ -29,7 +30,7 @@ today_of s (d ∷ ds) p = led_to season_alike short_view s (joined_on (copied d)
 -- directories of the last spans of a chronicle: of a pointer given in the first of these spans, what is said of a join.
 pub record Promised (s : Slots SeasonGen ℕ) (d : Directory SeasonGen Pointer) (ds : List (Directory SeasonGen Pointer)) : Type 0 where
   pub whole : Promise season_alike short_view (joined_on (copied d) ds) s
-  pub traced : (front : List (Directory SeasonGen Pointer)) (c : Chronicle (front ++ (d ∷ ds)) s) (before : List (Span SeasonGen ℕ Pointer)) (x : Span SeasonGen ℕ Pointer) (xs : List (Span SeasonGen ℕ Pointer)) →
+  pub traced : (h : List (Entry SeasonGen ℕ)) (front : List (Directory SeasonGen Pointer)) (c : Chronicle h (front ++ (d ∷ ds)) s) (before : List (Span SeasonGen ℕ Pointer)) (x : Span SeasonGen ℕ Pointer) (xs : List (Span SeasonGen ℕ Pointer)) →
       c.spans ≡ before ++ (x ∷ xs) → d ∷ ds ≡ directories (x ∷ xs) → Traced season_alike short_view (joined_on (copied d) ds) s x xs (all_ended before []) c.later
 
 abbrev pub PromiseToday : Slots SeasonGen ℕ → List (Directory SeasonGen Pointer) → Type 0

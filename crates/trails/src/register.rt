@@ -9,7 +9,7 @@ use passages::{Register, Slot, open};
 #[tactic(auto, using(crate::proofs::Chronicles::new_chronicle))]
 pub fn open_register<'a>(slots: &'a mut [Slot]) -> Register<'a>
     ensures slots { (register_of result).slots ≡ [] }
-    ensures chronicle { Chronicle [] (register_of result).slots }
+    ensures chronicle { Chronicle [] [] (register_of result).slots }
 {
     let lent = slots.len();
     let mut register = open(slots);

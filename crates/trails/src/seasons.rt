@@ -1,7 +1,8 @@
 // A season from its first line to its last, and then the trails of its citations.
 ghost use Rattle.std.specs.Prelude.{◌≡◌, [], IfOk, OnOk, string_bytes};
-ghost use Rattle.passages.specs.State.{register_of};
-ghost use Rattle.trails.specs.Chronicle.{GoesOn, Ran};
+ghost use Rattle.passages.specs.State.{register_of, capacity_of};
+ghost use Rattle.text.specs.Split.{lines_of};
+ghost use Rattle.trails.specs.Chronicle.{adds, left_by, GoesOn, Ran, RanAll};
 ghost use Rattle.trails.specs.Answers.{Gets, Notes};
 ghost use Rattle.trails.specs.Reports.{of_call, reports_in, first_reports};
 ghost use Rattle.trails.specs.Season.{lines_in, season_of};
@@ -29,7 +30,9 @@ fn carry_out(
     line: Result<Call, LineError>,
 ) -> Result<Option<Pointer>, Refusal>
     ensures answer { Gets (register_of register.old) line (of_call result) }
-    ensures chronicle { GoesOn (first_reports filled.old directories.old.items) (first_reports filled.new directories.new.items) (register_of register.old).slots (register_of register.new).slots }
+    ensures chronicle { GoesOn (adds line (of_call result)) (first_reports filled.old directories.old.items) (first_reports filled.new directories.new.items) (register_of register.old).slots (register_of register.new).slots }
+    ensures slots { (register_of register.new).slots ≡ left_by (adds line (of_call result)) (register_of register.old).slots }
+    ensures room { capacity_of (register_of register.new) ≡ capacity_of (register_of register.old) }
 {
     match line? {
         Call::Insert {
@@ -85,7 +88,7 @@ fn add_season(
     directories: &mut Vec<Directory<'_>>,
     lines: &[u8],
 ) -> Result<usize, AllocError>
-    ensures { IfOk result (λ n. GoesOn [] (first_reports n directories.new.items) (register_of register.old).slots (register_of register.new).slots) }
+    ensures { IfOk result (λ n. Ran (lines_of lines.now) (first_reports n directories.new.items) (register_of register.old) (register_of register.new)) }
 {
     let mut filled = 0;
     let mut number: usize = 1;
@@ -132,7 +135,7 @@ fn add_all(
     scratch: &mut Directory<'_>,
     lines: &[u8],
 ) -> Result<(), AllocError>
-    ensures { OnOk result (GoesOn [] (reports_in directories.new.items) (register_of register.old).slots (register_of register.new).slots) }
+    ensures { OnOk result (Ran (lines_of lines.now) (reports_in directories.new.items) (register_of register.old) (register_of register.new)) }
 {
     let mut citations = Vec::new(heap);
     let compressions = add_season(out, &mut citations, register, directories, lines)?;
@@ -162,7 +165,7 @@ pub fn run(
     scratch: &mut Directory<'_>,
     input: &[u8],
 ) -> Result<String, AllocError>
-    ensures { OnOk result (Ran (season_of input.now) (reports_in directories.new.items) (register_of register.old).slots (register_of register.new).slots) }
+    ensures { OnOk result (RanAll (season_of input.now) (reports_in directories.new.items) (register_of register.old) (register_of register.new)) }
 {
     let mut out = String::new(heap);
     match after_names(input) {
