@@ -23,7 +23,7 @@ use Rattle.lines.proofs.Names.{verb_named}
 use Rattle.lines.proofs.OneText.{shown_if}
 
 -- no space among the bytes
-abbrev Solid : List ℕ → Type 0
+abbrev pub Solid : List ℕ → Type 0
 Solid [] = Unit {0}
 Solid (c ∷ cs) = (eqb c 32 ≡ false) × Solid cs
 
@@ -35,7 +35,7 @@ split_last : (a : List ℕ) → Solid a → split 32 a ≡ a ∷ []
 split_last [] s = refl
 split_last (c ∷ cs) s = cond-false _ _ _ s.0 ∙ ap (onto c) (split_last cs s.1)
 
-split_row : (a b c d : List ℕ) → Solid a → Solid b → Solid c → Solid d → split 32 (row a b c d) ≡ a ∷ b ∷ c ∷ d ∷ []
+pub split_row : (a b c d : List ℕ) → Solid a → Solid b → Solid c → Solid d → split 32 (row a b c d) ≡ a ∷ b ∷ c ∷ d ∷ []
 split_row a b c d p q r s =
     split_part a _ p ∙ ap (λ l. a ∷ l) (split_part b _ q ∙ ap (λ l. b ∷ l) (split_part c d r ∙ ap (λ l. c ∷ l) (split_last d s)))
 
@@ -45,11 +45,11 @@ solid_digits (c ∷ cs) h =
     let p = and_parts (is_ascii_digit c) (all_ascii_digits cs) h in
     (ne_eqb c 32 (λ z. false≢true (subst (λ x. is_ascii_digit x ≡ true) z p.0)), solid_digits cs p.1)
 
-solid_shown : (w : Bool) (n : ℕ) → n ≤ 4294967295 → Solid (shown_if w n)
+pub solid_shown : (w : Bool) (n : ℕ) → n ≤ 4294967295 → Solid (shown_if w n)
 solid_shown true n h = solid_digits (decimal n) (digits_decimal own n (omega arith))
 solid_shown false n h = (refl, tt)
 
-length_shown : (w : Bool) (n : ℕ) → n ≤ 4294967295 → length (shown_if w n) ≤ 10
+pub length_shown : (w : Bool) (n : ℕ) → n ≤ 4294967295 → length (shown_if w n) ≤ 10
 length_shown true n h = length-decimal-le 10 n (omega arith) (omega arith) (omega arith)
 length_shown false n h = omega arith
 
@@ -77,7 +77,7 @@ length_name Clear = omega arith
 length_name Compress = omega arith
 length_name Recast = omega arith
 
-abbrev given : Bool → ℕ → Field
+abbrev pub given : Bool → ℕ → Field
 given true n = Ok (Some n)
 given false n = Ok None
 
@@ -88,7 +88,7 @@ not_blank n h = go (bytes_eq (decimal n) blank) refl
     go true s = absurd (never (sym (ap numeral ((bytes_eq-Decides (decimal n) blank).0 s)) ∙ numeral_reads n h))
     go false s = refl
 
-field_given : (w : Bool) (most n : ℕ) → most < 2 ^ 32 → n ≤ most → field_of most (shown_if w n) ≡ given w n
+pub field_given : (w : Bool) (most n : ℕ) → most < 2 ^ 32 → n ≤ most → field_of most (shown_if w n) ≡ given w n
 field_given true most n h l = cond-false _ _ _ (not_blank n (omega arith)) ∙ ap number_or (all_decimals most n h l)
 field_given false most n h l = refl
 
@@ -104,7 +104,7 @@ asked_given Clear s g v = refl
 asked_given Compress s g v = refl
 asked_given Recast s g v = refl
 
-length_row : (a b c d : List ℕ) → length (row a b c d) ≡ length a + (1 + (length b + (1 + (length c + (1 + length d)))))
+pub length_row : (a b c d : List ℕ) → length (row a b c d) ≡ length a + (1 + (length b + (1 + (length c + (1 + length d)))))
 length_row a b c d = omega (arith, length-append a (32 ∷ (b ++ (32 ∷ (c ++ (32 ∷ d))))), length-append b (32 ∷ (c ++ (32 ∷ d))), length-append c (32 ∷ d))
 
 abbrev text : Verb → ℕ → ℕ → ℕ → List ℕ

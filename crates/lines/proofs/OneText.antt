@@ -19,7 +19,7 @@ use Rattle.text.proofs.Exact.{never, only_decimals}
 use Rattle.text.proofs.Splits.{some_part}
 
 -- the parts with the byte between them again
-abbrev join : ℕ → List (List ℕ) → List ℕ
+abbrev pub join : ℕ → List (List ℕ) → List ℕ
 join at [] = []
 join at (p ∷ []) = p
 join at (p ∷ q ∷ ps) = p ++ (at ∷ join at (q ∷ ps))
@@ -29,7 +29,7 @@ join_onto at x [] = refl
 join_onto at x (p ∷ []) = refl
 join_onto at x (p ∷ q ∷ ps) = refl
 
-join_split : (at : ℕ) (bs : List ℕ) → join at (split at bs) ≡ bs
+pub join_split : (at : ℕ) (bs : List ℕ) → join at (split at bs) ≡ bs
 join_split at [] = refl
 join_split at (x ∷ xs) = go (eqb x at) refl (join_split at xs)
   where
@@ -37,10 +37,10 @@ join_split at (x ∷ xs) = go (eqb x at) refl (join_split at xs)
     go true e h = some_part at xs (λ ps. join at ([] ∷ ps) ≡ at ∷ join at ps) (λ _ _. refl) ∙ ap (λ l. at ∷ l) h ∙ ap (λ y. y ∷ xs) (sym (eqb-true x at e))
     go false e h = join_onto at x (split at xs) ∙ ap (λ l. x ∷ l) h
 
-abbrev row_of : Four → List ℕ
+abbrev pub row_of : Four → List ℕ
 row_of f = row f.call f.slot f.generation f.value
 
-four_row : (ps : List (List ℕ)) (f : Four) → four_of ps ≡ Some f → join 32 ps ≡ row_of f
+pub four_row : (ps : List (List ℕ)) (f : Four) → four_of ps ≡ Some f → join 32 ps ≡ row_of f
 four_row [] f e = absurd (never e)
 four_row (a ∷ []) f e = absurd (never e)
 four_row (a ∷ b ∷ []) f e = absurd (never e)
@@ -61,7 +61,7 @@ abbrev pub shown_if : Bool → ℕ → List ℕ
 shown_if true n = decimal n
 shown_if false n = blank
 
-field_text : (want : Bool) (most : ℕ) (bs : List ℕ) → most < 2 ^ 32 → fits want (field_of most bs) ≡ true → (number_in (field_of most bs) ≤ most) × (bs ≡ shown_if want (number_in (field_of most bs)))
+pub field_text : (want : Bool) (most : ℕ) (bs : List ℕ) → most < 2 ^ 32 → fits want (field_of most bs) ≡ true → (number_in (field_of most bs) ≤ most) × (bs ≡ shown_if want (number_in (field_of most bs)))
 field_text want most bs h e = go want (bytes_eq bs blank) (within most (numeral bs)) refl refl e
   where
     go : (w t : Bool) (o : Option ℕ) → bytes_eq bs blank ≡ t → within most (numeral bs) ≡ o → fits w (cond t (Ok None) (number_or o)) ≡ true → (number_in (cond t (Ok None) (number_or o)) ≤ most) × (bs ≡ shown_if w (number_in (cond t (Ok None) (number_or o))))
@@ -115,7 +115,7 @@ fields_text f verb c n e =
     let d = field_text (wants_value verb) 4294967295 f.value (omega arith) p.2 in
     (subst InRange p.3 (call_range verb _ _ _ a.0 b.0 d.0), (λ i. row (n i) (a.1 i) (b.1 i) (d.1 i)) ∙ sym (call_text_lem verb _ _ _) ∙ ap call_text p.3)
 
-err_ok : {X : Type 0} (l : LineError) (x : X) → ◌≡◌ {A = Result X LineError} (Err l) (Ok x) → ⊥
+pub err_ok : {X : Type 0} (l : LineError) (x : X) → ◌≡◌ {A = Result X LineError} (Err l) (Ok x) → ⊥
 err_ok l x e = cc
 
 unfit_back : (o : Option Call) (c : Call) → ok_or o Unfit ≡ Ok c → o ≡ Some c

@@ -1,4 +1,5 @@
 pub mod Call
 pub mod Meaning
+pub mod Script
 pub mod Texts
 pub mod Verb

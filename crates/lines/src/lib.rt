@@ -1,4 +1,4 @@
-//! The lines that a runner reads: what one line asks for, and the one text of each call.
+//! The lines that a runner reads: where they stand in a script, what one asks for, and the one text of each call.
 //! It uses `text` for fields and numbers, `answers` for a line's refusals, and knows nothing of arenas or stacks.
 //! A new call of the runner is a case of `Verb` and of `Call`, with its text in `specs/Texts.antt`.
 
@@ -7,4 +7,5 @@
 pub mod call;
 pub mod error;
 pub mod parse;
+pub mod script;
 pub mod verb;

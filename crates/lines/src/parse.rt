@@ -14,8 +14,8 @@ use text::split::{Fields, four_fields};
 
 const LONGEST: usize = 80;
 
-// Slots have 16 bits.
-fn read_slot(bytes: &[u8]) -> Result<Option<u16>, LineError>
+/// Slots have 16 bits.
+pub fn read_slot(bytes: &[u8]) -> Result<Option<u16>, LineError>
     ensures { result ≡ field_or_unfit (field_of 65535 bytes.now) }
 {
     let slot = read_field(bytes, 65535)?;

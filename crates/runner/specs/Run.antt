@@ -1,12 +1,10 @@
 -- A run over the lines of a script.
-use Rattle.std.specs.Prelude.{ℕ, cond, List, [], ◌∷◌, ◌++◌, length, Some, None, codes, Option, nat_lt}
-use Rattle.std.specs.Borrow.{Bor}
-use Rattle.std.specs.Str.{bytes_eq}
+use Rattle.std.specs.Prelude.{ℕ, List, [], ◌∷◌, ◌++◌, Some, None, codes, Option}
 use Rattle.answers.specs.Shown.{reply_line}
 use Rattle.history.specs.Calls.{Entry}
 use Rattle.kinds.specs.declared.generation.SeasonGen.{SeasonGen}
 use Rattle.lines.specs.Meaning.{meaning}
-use Rattle.text.specs.Split.{lines_of}
+use Rattle.lines.specs.Script.{script_of}
 use Rattle.outcome.specs.Outcome.{refused}
 use Rattle.passages.specs.State.{Pointer, State, tally_of}
 use Rattle.steps.specs.Model.{answer_to, after_line, adds, latest_adds}
@@ -30,18 +28,6 @@ adds_all st (l ∷ ls) = adds_all (after_line st (meaning l)) ls ++ adds st (mea
 abbrev pub latest_adds_all : State → List (List ℕ) → List (Entry SeasonGen Pointer)
 latest_adds_all st [] = []
 latest_adds_all st (l ∷ ls) = latest_adds_all (after_line st (meaning l)) ls ++ latest_adds st (meaning l)
-
-abbrev pub after_names : List (List ℕ) → Option (List (List ℕ))
-after_names [] = None
-after_names (l ∷ ls) = cond (bytes_eq l (codes "call slot generation value")) (Some ls) None
-
--- the lines after the names, where the input is short enough and begins with them
-abbrev pub script_of : List ℕ → Option (List (List ℕ))
-script_of bs = cond (nat_lt 65536 (length bs)) None (after_names (lines_of bs))
-
-abbrev pub lines_in : Option (Bor (List ℕ)) → Option (List (List ℕ))
-lines_in (Some r) = Some (lines_of r.now)
-lines_in None = None
 
 -- an input that is no script has no lines to carry out
 abbrev pub lines_by : Option (List (List ℕ)) → List (List ℕ)

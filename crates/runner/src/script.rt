@@ -1,20 +1,19 @@
 ghost use Rattle.std.specs.Prelude.{◌≡◌, ◌++◌, IfOk, string_bytes, OnOk};
 ghost use Rattle.text.specs.Split.{lines_of};
 ghost use Rattle.passages.specs.State.{state_of};
-ghost use Rattle.runner.specs.Run.{output, after_all, lines_in, lines_by, script_of, answers_to, state_by, report};
+ghost use Rattle.lines.specs.Script.{script_of};
+ghost use Rattle.runner.specs.Run.{output, after_all, lines_by, answers_to, state_by, report};
 ghost use Rattle.runner.specs.Led.{Led, Reached, Stopped};
 
 use answers::answer::Answer;
 use answers::refusal::Refusal;
 use answers::write::add_line;
 use lines::parse::parse;
+use lines::script::after_names;
 use passages::{Directory, Register, tally};
 use std::alloc::{AllocError, Global};
 use steps::step::step;
-use text::split::{Lines, first_line};
-use text::word::is_word;
-
-const LONGEST: usize = 65_536;
+use text::split::Lines;
 
 // Adds an answer's line for each line of `script`.
 fn add_answers(
@@ -32,17 +31,6 @@ fn add_answers(
         add_line(out, answer)?;
     }
     Ok(())
-}
-
-// What stands after the line of names, where `input` is short enough and begins with it.
-fn after_names(input: &[u8]) -> Option<&[u8]>
-    ensures { lines_in result ≡ script_of input.now }
-{
-    if input.len() > LONGEST {
-        return None;
-    }
-    let (line, rest) = first_line(input)?;
-    is_word(line, b"call slot generation value").then_some(rest)
 }
 
 // Adds the answers to `input`, or the one refusal.
@@ -69,7 +57,8 @@ fn add_report(
 }
 
 /// The whole report on `input`, with a line for each call; and the register's history goes on by just those calls, and
-/// that of the latest directory by the fillings of the accepted compressions. Where memory for the report fails, the first calls were carried out and no other.
+/// that of the latest directory by the fillings of the accepted compressions. Where memory for the report fails, the
+/// first calls were carried out and no other.
 pub fn run(
     heap: Global,
     register: &mut Register<'_>,

@@ -1,29 +1,17 @@
 // What a line of a season means.
 ghost use Rattle.std.specs.Prelude.{◌≡◌, Ok};
 ghost use Rattle.text.specs.Fields.{four_in};
-ghost use Rattle.text.specs.Number.{field_of};
-ghost use Rattle.lines.specs.Meaning.{field_or_unfit};
 ghost use Rattle.season.specs.Meaning.{is_shared, cited_by, meaning};
 ghost use Rattle.season.specs.Texts.{InRange, call_text};
 
 use crate::call::{Call, of_runner};
 use lines::error::LineError;
-use lines::parse::parse as parse_shared;
+use lines::parse::{parse as parse_shared, read_slot};
 use text::number::read_field;
 use text::split::{Fields, four_fields};
 use text::word::is_word;
 
 const LONGEST: usize = 80;
-
-// Slots have 16 bits.
-fn read_slot(bytes: &[u8]) -> Result<Option<u16>, LineError>
-    ensures { result ≡ field_or_unfit (field_of 65535 bytes.now) }
-{
-    let slot = read_field(bytes, 65535)?;
-    slot.map(u16::try_from)
-        .transpose()
-        .map_err(|_| LineError::Unfit)
-}
 
 // A citation wants a slot and a generation, and a blank for the value.
 fn parse_cite(fields: Fields<'_>) -> Result<Call, LineError>

@@ -2,5 +2,4 @@ pub mod Answers
 pub mod Chronicle
 pub mod Lines
 pub mod Reports
-pub mod Season
 pub mod Today

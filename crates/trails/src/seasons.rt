@@ -1,11 +1,11 @@
 // A season from its first line to its last, and then the trails of its citations.
 ghost use Rattle.std.specs.Prelude.{◌≡◌, [], IfOk, OnOk, string_bytes};
+ghost use Rattle.lines.specs.Script.{script_of};
 ghost use Rattle.passages.specs.State.{register_of, capacity_of};
 ghost use Rattle.text.specs.Split.{lines_of};
 ghost use Rattle.trails.specs.Chronicle.{adds, left_by, GoesOn, Ran, RanAll};
 ghost use Rattle.trails.specs.Answers.{Gets, Notes};
 ghost use Rattle.trails.specs.Reports.{of_call, reports_in, first_reports};
-ghost use Rattle.trails.specs.Season.{lines_in, season_of};
 ghost use Rattle.trails.specs.Today.{AllTold};
 
 use crate::calls;
@@ -13,14 +13,12 @@ use crate::line::Line;
 use crate::trail::{Citation, add_trail};
 use answers::refusal::Refusal;
 use lines::error::LineError;
+use lines::script::after_names;
 use passages::{Directory, Pointer, Register, pointer};
 use season::call::Call;
 use season::parse::parse;
 use std::alloc::{AllocError, Global};
-use text::split::{Lines, first_line};
-use text::word::is_word;
-
-const LONGEST: usize = 65_536;
+use text::split::Lines;
 
 // Carries out the call that a line asks for, if it asks for one. It answers the pointer that a paper cites.
 fn carry_out(
@@ -115,17 +113,6 @@ fn add_trails(
     Ok(())
 }
 
-// What stands after the line of names, where `input` is short enough and begins with it.
-fn after_names(input: &[u8]) -> Option<&[u8]>
-    ensures { lines_in result ≡ season_of input.now }
-{
-    if input.len() > LONGEST {
-        return None;
-    }
-    let (line, rest) = first_line(input)?;
-    is_word(line, b"call slot generation value").then_some(rest)
-}
-
 // Writes a season's refusals and totals, and the trails of its citations.
 fn add_all(
     out: &mut String,
@@ -165,7 +152,7 @@ pub fn run(
     scratch: &mut Directory<'_>,
     input: &[u8],
 ) -> Result<String, AllocError>
-    ensures { OnOk result (RanAll (season_of input.now) (reports_in directories.new.items) (register_of register.old) (register_of register.new)) }
+    ensures { OnOk result (RanAll (script_of input.now) (reports_in directories.new.items) (register_of register.old) (register_of register.new)) }
 {
     let mut out = String::new(heap);
     match after_names(input) {

@@ -1,6 +1,7 @@
 use Rattle.std.proofs.Common.{◌++◌, sym, ap, ◌∙◌, subst, rules}
 use Rattle.passages.specs.State.{State, state_of}
-use Rattle.runner.specs.Run.{lines_by, answers_to, script_of}
+use Rattle.lines.specs.Script.{script_of}
+use Rattle.runner.specs.Run.{lines_by, answers_to}
 use Rattle.runner.specs.Led.{Led}
 use Rattle.runner.proofs.Histories.{script_leads, none_reached, stopped_there}
 use Rattle.runner.proofs.script.run.Goals as goal
