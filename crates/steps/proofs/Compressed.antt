@@ -21,13 +21,6 @@ use Rattle.passages.specs.State.{Pointer, short_point}
 use Rattle.stack.specs.Fixed.{FixedRegrown}
 use Rattle.stack.specs.Slots.{counted}
 
--- a directory takes a report exactly if it has room, and has as many lent slots as before
-pub taken : (r : Result (Unit {0}) DirectoryError) (n last lent after : ℕ) → MadeRoom FixedRegrown counted 65535 n last (of_arena_reallocation (carried r)) lent after → (went (of_directory r) ≡ leb last (min lent 65535)) × (after ≡ lent)
-taken (Ok tt) n last lent after m = grind arith
-taken (Err (NoRoom BeyondIndices)) n last lent after m = grind arith
-taken (Err (NoRoom (Stack BeyondMaxCapacity))) n last lent after m = grind arith
-taken (Err (NoRoom (Stack AllocError))) n last lent after m = grind arith
-
 -- and what it then holds
 pub then_holds : (b : Bool) (ps : List (Pair SeasonGen SeasonGen)) (d e : Directory SeasonGen Pointer) → Filled season_alike short_point b ps d e → e ≡ cond b (filled_slots short_point ps) d
 then_holds true ps d e f = filling_leaves season_alike short_point ps d e f

@@ -1,5 +1,5 @@
 -- A season's calls, and the reports that it keeps.
-use Rattle.std.specs.Prelude.{◌≡◌, ℕ, Bool, true, false, List, [], ◌∷◌, ◌++◌, map, take, All, Some, None, Ok, Err, Option, Result}
+use Rattle.std.specs.Prelude.{◌≡◌, ℕ, Bool, true, false, List, [], ◌∷◌, ◌++◌, map, take, min, nat_le, All, Some, None, Ok, Err, Option, Result}
 use Rattle.answers.specs.Refusals.{number_of}
 use Rattle.answers.specs.declared.refusal.Refusal.{Refusal}
 use Rattle.history.specs.Directories.{Directory, Holds}
@@ -9,7 +9,7 @@ use Rattle.kinds.specs.declared.generation.SeasonGen.{SeasonGen}
 use Rattle.kinds.specs.declared.slot.DirectSlot.{DirectSlot}
 use Rattle.outcome.specs.Outcome.{Outcome, done, refused}
 use Rattle.passages.specs.State.{Pointer, short_view}
-use Rattle.stack.specs.Fixed.{fixed_list}
+use Rattle.stack.specs.Fixed.{fixed_list, fixed_lent}
 use Rattle.stack.specs.declared.fixed.FixedStack.{FixedStack}
 
 -- carried out, or refused under a number
@@ -21,6 +21,11 @@ of_call (Err r) = refused (number_of r)
 abbrev pub held_or_not : Option (Held SeasonGen ℕ) → Outcome (Unit {0})
 held_or_not None = refused 3
 held_or_not (Some h) = done tt
+
+-- there is a directory, and it has room for so many slots
+abbrev pub takes : Option (FixedStack (DirectSlot SeasonGen Pointer)) → ℕ → Bool
+takes None n = false
+takes (Some d) n = nat_le n (min (fixed_lent d) 65535)
 
 -- the slots of directories
 abbrev pub reports_in : List (FixedStack (DirectSlot SeasonGen Pointer)) → List (Directory SeasonGen Pointer)

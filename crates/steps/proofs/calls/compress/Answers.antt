@@ -3,7 +3,8 @@ use Rattle.history.specs.Mapped.{records, report}
 use Rattle.bulk.specs.Brought.{last_slot}
 use Rattle.slab_stack.specs.Slab.{slab_list}
 use Rattle.stack.specs.Fixed.{fixed_list, fixed_lent}
-use Rattle.steps.proofs.Compressed.{taken, then_holds, then_packed}
+use Rattle.passages.proofs.Room.{taken}
+use Rattle.steps.proofs.Compressed.{then_holds, then_packed}
 use Rattle.steps.proofs.calls.compress.Goals as goal
 
 pub returns-clause-answer : goal.returns-clause-answer
