@@ -1,6 +1,7 @@
 // A season from its first line to its last, and then the trails of its citations.
 ghost use Rattle.std.specs.Prelude.{◌≡◌, [], IfOk, OnOk, string_bytes};
 ghost use Rattle.passages.specs.State.{register_of};
+ghost use Rattle.stack.specs.Fixed.{fixed_lent};
 ghost use Rattle.trails.specs.Chronicle.{GoesOn, Ran};
 ghost use Rattle.trails.specs.Answers.{Gets, Notes};
 ghost use Rattle.trails.specs.Reports.{of_call, reports_in, first_reports};
@@ -104,7 +105,7 @@ fn add_trails(
     directories: &[Directory<'_>],
     citations: &[Citation],
 ) -> Result<(), AllocError>
-    ensures { OnOk result (AllTold (register_of register.now).slots directories.now citations.now (string_bytes out.old) (string_bytes out.new)) }
+    ensures { OnOk result (AllTold (fixed_lent scratch.old) (register_of register.now).slots directories.now citations.now (string_bytes out.old) (string_bytes out.new)) }
 {
     for citation in citations {
         add_trail(out, register, scratch, directories, *citation)?;
