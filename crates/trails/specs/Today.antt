@@ -3,8 +3,9 @@ use Rattle.std.specs.Prelude.{◌≡◌, ℕ, List, [], ◌∷◌, ◌++◌, tru
 use Rattle.bulk.specs.Brought.{last_slot}
 use Rattle.directory.specs.Find.{looked_up, led_to}
 use Rattle.history.specs.Directories.{Directory, joined_with}
+use Rattle.history.specs.Laws.{Lawful}
 use Rattle.history.specs.Mapped.{records}
-use Rattle.history.specs.Slots.{Slots}
+use Rattle.history.specs.Slots.{Slots, count}
 use Rattle.history.specs.Spans.{Span, all_ended, directories, Traced, Promise}
 use Rattle.kinds.specs.Kinds.{season_alike}
 use Rattle.kinds.specs.declared.generation.SeasonGen.{SeasonGen}
@@ -35,8 +36,9 @@ pub record Promised (s : Slots SeasonGen ℕ) (d : Directory SeasonGen Pointer) 
   pub traced : (front : List (Directory SeasonGen Pointer)) (c : Chronicle (front ++ (d ∷ ds)) s) (before : List (Span SeasonGen ℕ Pointer)) (x : Span SeasonGen ℕ Pointer) (xs : List (Span SeasonGen ℕ Pointer)) →
       c.spans ≡ before ++ (x ∷ xs) → d ∷ ds ≡ directories (x ∷ xs) → Traced season_alike short_view (joined_on (copied d) ds) s x xs (all_ended before []) c.later
 
+-- with none of them, what holds of the register alone
 abbrev pub PromiseToday : Slots SeasonGen ℕ → List (Directory SeasonGen Pointer) → Type 0
-PromiseToday s [] = Unit {0}
+PromiseToday s [] = Lawful season_alike s (count s)
 PromiseToday s (d ∷ ds) = Promised s d ds
 
 -- a scratch directory of so many slots has no slot for the last record of the first of these
