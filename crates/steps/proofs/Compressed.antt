@@ -1,10 +1,9 @@
 -- A compression that fills the latest directory.
-use Rattle.std.proofs.Common.{◌≡◌, ℕ, suc, min, Bool, true, false, cond, leb, List, [], ◌∷◌, Ok, Err, Result, refl, ap, ◌∙◌, arith}
-use Rattle.arena.specs.Reserve.{MadeRoom}
+use Rattle.std.proofs.Common.{◌≡◌, ℕ, suc, Bool, true, false, cond, List, [], ◌∷◌, refl, ap, ◌∙◌}
 use Rattle.bulk.specs.Given.{given}
 use Rattle.bulk.proofs.Kept.{given_kept}
 use Rattle.history.specs.Slots.{Slots, count, held}
-use Rattle.history.specs.Calls.{compress, went, Step}
+use Rattle.history.specs.Calls.{compress, Step}
 use Rattle.history.specs.Mapped.{Pair, records, moving, packed, kept, rest}
 use Rattle.history.specs.Directories.{Directory, Filled, filled_slots}
 use Rattle.history.proofs.Fills.{filling_leaves}
@@ -12,14 +11,7 @@ use Rattle.kinds.specs.Kinds.{season_alike}
 use Rattle.kinds.specs.declared.generation.SeasonGen.{SeasonGen}
 use Rattle.kinds.specs.declared.slot.DirectSlot.TheVariants.{Free, Allocated}
 use Rattle.kinds.specs.declared.index.ShortInx.{ShortInx}
-use Rattle.outcome.specs.Outcome.{of_directory, of_arena_reallocation, carried}
-use Rattle.outcome.specs.declared.errors.ArenaReallocationError.TheVariants.{Stack, BeyondIndices}
-use Rattle.outcome.specs.declared.errors.DirectoryError.{DirectoryError}
-use Rattle.outcome.specs.declared.errors.DirectoryError.TheVariants.{NoRoom}
-use Rattle.outcome.specs.declared.errors.ReallocationError.TheVariants.{BeyondMaxCapacity, AllocError}
 use Rattle.passages.specs.State.{Pointer, short_point}
-use Rattle.stack.specs.Fixed.{FixedRegrown}
-use Rattle.stack.specs.Slots.{counted}
 
 -- and what it then holds
 pub then_holds : (b : Bool) (ps : List (Pair SeasonGen SeasonGen)) (d e : Directory SeasonGen Pointer) → Filled season_alike short_point b ps d e → e ≡ cond b (filled_slots short_point ps) d

@@ -2,8 +2,9 @@
 use Rattle.std.proofs.Common.{◌≡◌, ℕ, true, List, [], ◌∷◌, ◌++◌, sym, refl, ap, ◌∙◌, subst, append_assoc, append-nil}
 use Rattle.history.specs.Calls.{Entry, Leads}
 use Rattle.history.specs.Directories.{Directory, Brackets, one, both, bracketed, joined}
-use Rattle.history.specs.Slots.{Slots}
+use Rattle.history.specs.Slots.{Slots, count}
 use Rattle.history.specs.Spans.{Span, opens, ended, all_ended, Successive, Promise}
+use Rattle.history.proofs.Runs.{lawful}
 use Rattle.kinds.specs.Kinds.{season_alike}
 use Rattle.kinds.specs.declared.generation.SeasonGen.{SeasonGen}
 use Rattle.kinds.specs.declared.slot.DirectSlot.{DirectSlot}
@@ -58,3 +59,6 @@ all_promised s d ds p = record {
 
 pub promised : (s : Slots SeasonGen ℕ) (all rest : List (FixedStack (DirectSlot SeasonGen Pointer))) (first : FixedStack (DirectSlot SeasonGen Pointer)) (d : Directory SeasonGen Pointer) → all ≡ first ∷ rest → d ≡ joined_on (copied (fixed_list first)) (reports_in rest) → Promise season_alike short_view d s → PromiseToday s (reports_in all)
 promised s all rest first d cut is h = subst (λ xs. PromiseToday s (reports_in xs)) (sym cut) (all_promised s (fixed_list first) (reports_in rest) (subst (λ x. Promise season_alike short_view x s) is h))
+
+pub lawful_now : (s : Slots SeasonGen ℕ) (all : List (FixedStack (DirectSlot SeasonGen Pointer))) → all ≡ [] → PromiseToday s (reports_in all)
+lawful_now s all none = subst (λ xs. PromiseToday s (reports_in xs)) (sym none) (lawful season_alike s (count s) refl)

@@ -19,12 +19,12 @@ pub on_ok_map : {X Y : Type 0} {P Q : Type 0} (r : Result X Y) → (P → Q) →
 on_ok_map (Ok x) f h = f h
 on_ok_map (Err e) f h = tt
 
-module _ (s : Slots SeasonGen ℕ) (since : List (Directory SeasonGen Pointer)) (c : Citation) (old cited stepped : List ℕ) (cites : cited ≡ old ++ written (Cites c.line c.pointer)) (steps : stepped ≡ cited ++ steps_text c.before since c.pointer) where
+module _ (room : ℕ) (s : Slots SeasonGen ℕ) (since : List (Directory SeasonGen Pointer)) (c : Citation) (old cited stepped : List ℕ) (cites : cited ≡ old ++ written (Cites c.line c.pointer)) (steps : stepped ≡ cited ++ steps_text c.before since c.pointer) where
   so_far : (l : List ℕ) → stepped ++ l ≡ old ++ (written (Cites c.line c.pointer) ++ (steps_text c.before since c.pointer ++ l))
   so_far l = ap (λ x. x ++ l) steps ∙ append_assoc cited (steps_text c.before since c.pointer) l ∙ ap (λ x. x ++ (steps_text c.before since c.pointer ++ l)) cites ∙ append_assoc old (written (Cites c.line c.pointer)) _
 
-  pub ended : None ≡ come_through since c.pointer → Told s since c old stepped
+  pub ended : None ≡ come_through since c.pointer → Told room s since c old stepped
   ended e = (Ok (today_of s since c.pointer), refl, sym (append-nil stepped) ∙ so_far [] ∙ ap (λ o. old ++ (written (Cites c.line c.pointer) ++ (steps_text c.before since c.pointer ++ onward (λ at. written (today_line at (Ok (today_of s since c.pointer)))) o))) e)
 
-  pub came : {new : List ℕ} (at : Pointer) (answer : Result (Option (Pointer × ℕ)) DirectoryError) → Some at ≡ come_through since c.pointer → Answered s since c.pointer answer → new ≡ stepped ++ written (today_line at answer) → Told s since c old new
+  pub came : {new : List ℕ} (at : Pointer) (answer : Result (Option (Pointer × ℕ)) DirectoryError) → Some at ≡ come_through since c.pointer → Answered room s since c.pointer answer → new ≡ stepped ++ written (today_line at answer) → Told room s since c old new
   came at answer e a writes = (answer, a, writes ∙ so_far _ ∙ ap (λ o. old ++ (written (Cites c.line c.pointer) ++ (steps_text c.before since c.pointer ++ onward (λ q. written (today_line q answer)) o))) e)

@@ -1,5 +1,5 @@
 -- A season's calls, and the reports that it keeps.
-use Rattle.std.specs.Prelude.{◌≡◌, ℕ, Bool, true, false, List, [], ◌∷◌, ◌++◌, map, take, min, nat_le, All, Some, None, Ok, Err, Option, Result}
+use Rattle.std.specs.Prelude.{◌≡◌, ℕ, ◌-◌, ◌<◌, min, nat_le, Bool, true, false, List, [], ◌∷◌, ◌++◌, map, take, Some, None, Ok, Err, Option, Result}
 use Rattle.answers.specs.Refusals.{number_of}
 use Rattle.answers.specs.declared.refusal.Refusal.{Refusal}
 use Rattle.history.specs.Directories.{Directory, Holds}
@@ -35,8 +35,10 @@ reports_in ds = map (λ d. fixed_list d) ds
 abbrev pub first_reports : ℕ → List (FixedStack (DirectSlot SeasonGen Pointer)) → List (Directory SeasonGen Pointer)
 first_reports n ds = reports_in (take n ds)
 
-abbrev pub Opened : List (FixedStack (DirectSlot SeasonGen Pointer)) → Type 0
-Opened ds = All (λ d. fixed_list d ≡ []) ds
+-- These are empty, and so many slots are lent to them in order: to each 256, or as many as are left.
+abbrev pub Opened : ℕ → List (FixedStack (DirectSlot SeasonGen Pointer)) → Type 0
+Opened left [] = left ≡ 0
+Opened left (d ∷ ds) = (0 < left) × (fixed_list d ≡ []) × (fixed_lent d ≡ min 256 left) × Opened (left - 256) ds
 
 -- a directory's copy: its records, and no slot behind the last
 abbrev pub copied : Directory SeasonGen Pointer → Directory SeasonGen Pointer

@@ -1,5 +1,5 @@
 // The directories of a season's compressions.
-ghost use Rattle.std.specs.Prelude.{IfOk};
+ghost use Rattle.std.specs.Prelude.{IfOk, length};
 ghost use Rattle.trails.specs.Reports.{Opened};
 
 use passages::{Directory, PointerSlot, open_directory};
@@ -13,7 +13,7 @@ pub fn open_directories<'a>(
     heap: Global,
     slots: &'a mut [PointerSlot],
 ) -> Result<Vec<Directory<'a>>, AllocError>
-    ensures { IfOk result (λ ds. Opened ds.items) }
+    ensures { IfOk result (λ ds. Opened (length slots.old) ds.items) }
 {
     let mut directories = Vec::new(heap);
     for part in slots.chunks_mut(ROOM) {

@@ -2,6 +2,7 @@
 ghost use Rattle.std.specs.Prelude.{◌≡◌, [], IfOk, OnOk, string_bytes};
 ghost use Rattle.lines.specs.Script.{script_of};
 ghost use Rattle.passages.specs.State.{register_of, capacity_of};
+ghost use Rattle.stack.specs.Fixed.{fixed_lent};
 ghost use Rattle.text.specs.Split.{lines_of};
 ghost use Rattle.trails.specs.Chronicle.{adds, left_by, GoesOn, Ran, RanAll};
 ghost use Rattle.trails.specs.Answers.{Gets, Notes};
@@ -105,7 +106,7 @@ fn add_trails(
     directories: &[Directory<'_>],
     citations: &[Citation],
 ) -> Result<(), AllocError>
-    ensures { OnOk result (AllTold (register_of register.now).slots directories.now citations.now (string_bytes out.old) (string_bytes out.new)) }
+    ensures { OnOk result (AllTold (fixed_lent scratch.old) (register_of register.now).slots directories.now citations.now (string_bytes out.old) (string_bytes out.new)) }
 {
     for citation in citations {
         add_trail(out, register, scratch, directories, *citation)?;

@@ -1,7 +1,12 @@
 // The trail of a citation: what became of its pointer at each compression since, and what it leads to today.
-ghost use Rattle.std.specs.Prelude.{◌≡◌, ◌++◌, IfOk, OnOk, drop, string_bytes};
+ghost use Rattle.std.specs.Prelude.{◌≡◌, ◌++◌, IfOk, OnOk, min, nat_le, drop, string_bytes};
+ghost use Rattle.bulk.specs.Brought.{last_slot};
+ghost use Rattle.history.specs.Calls.{went};
+ghost use Rattle.history.specs.Mapped.{records};
+ghost use Rattle.outcome.specs.Outcome.{of_directory};
 ghost use Rattle.passages.specs.State.{register_of};
-ghost use Rattle.stack.specs.Fixed.{fixed_list};
+ghost use Rattle.stack.specs.Fixed.{fixed_list, fixed_lent};
+ghost use Rattle.stack.specs.Slots.{counted};
 ghost use Rattle.trails.specs.Lines.{moved_line, today_line, led_by, steps_text, come_through};
 ghost use Rattle.trails.specs.Reports.{reports_in, copied};
 ghost use Rattle.trails.specs.Today.{joined_on, Answered, PromiseToday, Told};
@@ -71,20 +76,24 @@ fn add_steps(
 
 // Joins directories to the scratch one, one after the other.
 fn join_all(scratch: &mut Directory<'_>, directories: &[Directory<'_>])
-    ensures { fixed_list scratch.new ≡ joined_on (fixed_list scratch.old) (reports_in directories.now) }
+    ensures slots { fixed_list scratch.new ≡ joined_on (fixed_list scratch.old) (reports_in directories.now) }
+    ensures lent { fixed_lent scratch.new ≡ fixed_lent scratch.old }
 {
     for directory in directories {
         scratch.join(directory);
     }
 }
 
-// The scratch directory becomes the first with the others joined to it.
+// The scratch directory becomes the first with the others joined to it, where it has room for the first.
+#[tactic(auto, using(crate::proofs::Rooms::made_room))]
 fn join_since(
     scratch: &mut Directory<'_>,
     first: &Directory<'_>,
     rest: &[Directory<'_>],
 ) -> Result<(), DirectoryError>
-    ensures { OnOk result (fixed_list scratch.new ≡ joined_on (copied (fixed_list first.now)) (reports_in rest.now)) }
+    ensures slots { OnOk result (fixed_list scratch.new ≡ joined_on (copied (fixed_list first.now)) (reports_in rest.now)) }
+    ensures room { went (of_directory result) ≡ nat_le (last_slot (records (fixed_list first.now))) (min (counted (fixed_lent scratch.old)) 65535) }
+    ensures lent { fixed_lent scratch.new ≡ fixed_lent scratch.old }
 {
     scratch.clone_from_with(first, &mut KeepValues)?;
     join_all(scratch, rest);
@@ -99,8 +108,9 @@ pub fn today(
     since: &[Directory<'_>],
     p: Pointer,
 ) -> Result<Option<(Pointer, u32)>, DirectoryError>
-    ensures answer { Answered (register_of register.now).slots (reports_in since.now) p result }
+    ensures answer { Answered (fixed_lent scratch.old) (register_of register.now).slots (reports_in since.now) p result }
     ensures promise { OnOk result (PromiseToday (register_of register.now).slots (reports_in since.now)) }
+    ensures lent { fixed_lent scratch.new ≡ fixed_lent scratch.old }
 {
     match since.split_first() {
         Some((first, rest)) => {
@@ -130,7 +140,8 @@ pub fn add_trail(
     directories: &[Directory<'_>],
     citation: Citation,
 ) -> Result<(), AllocError>
-    ensures { OnOk result (Told (register_of register.now).slots (reports_in (drop citation.before directories.now)) citation (string_bytes out.old) (string_bytes out.new)) }
+    ensures told { OnOk result (Told (fixed_lent scratch.old) (register_of register.now).slots (reports_in (drop citation.before directories.now)) citation (string_bytes out.old) (string_bytes out.new)) }
+    ensures lent { fixed_lent scratch.new ≡ fixed_lent scratch.old }
 {
     writeln!(
         out,
