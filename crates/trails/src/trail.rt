@@ -85,7 +85,7 @@ fn join_all(scratch: &mut Directory<'_>, directories: &[Directory<'_>])
 }
 
 // The scratch directory becomes the first with the others joined to it, where it has room for the first.
-#[tactic(auto, using(crate::proofs::Rooms::made_room))]
+#[tactic(auto, using(passages::proofs::Room::made_room))]
 fn join_since(
     scratch: &mut Directory<'_>,
     first: &Directory<'_>,
