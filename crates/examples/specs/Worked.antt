@@ -1,6 +1,5 @@
 -- Examples of the rules, for a fixed stack of 8 and short indices: of the definitions that the contracts cite.
-use Rattle.std.specs.Prelude.{◌≡◌, ℕ, ◌-◌, min, List, [], ◌∷◌, map, length, replicate}
-use Rattle.kinds.specs.declared.slot.DirectSlot.{DirectSlot}
+use Rattle.std.specs.Prelude.{◌≡◌, ℕ, ◌-◌, min, true, [], ◌∷◌, length}
 use Rattle.kinds.specs.declared.slot.DirectSlot.TheVariants.{Free, Allocated}
 use Rattle.kinds.specs.declared.generation.SeasonGen.{SeasonGen}
 use Rattle.kinds.specs.declared.index.ShortInx.{ShortInx}
@@ -8,10 +7,11 @@ use Rattle.kinds.specs.declared.pointer.PtrOf.{PtrOf}
 use Rattle.kinds.specs.Kinds.{short_number, season_alike}
 use Rattle.outcome.specs.Outcome.{done, refused}
 use Rattle.stack.specs.Slots.{counted}
-use Rattle.history.specs.Slots.{Slots, Ptr, to, trimmed, write}
+use Rattle.history.specs.Slots.{Slots, Ptr, to, trimmed}
 use Rattle.history.specs.Mapped.{Pair, kept, records, report}
-use Rattle.history.specs.Calls.{Call, insert, remove, compress, index, effect}
-use Rattle.history.specs.Directories.{Directory, Holds, joined_with, filled_slots}
+use Rattle.history.specs.Calls.{insert, remove, compress, index, effect, Leads}
+use Rattle.history.specs.Directories.{Holds, joined_with, filled_slots}
+use Rattle.history.specs.Spans.{Span, all_ended, Successive, AllApart, Gives}
 use Rattle.slots.specs.Inserted.{insert_answer}
 use Rattle.bulk.specs.Edits.{edits_answer}
 use Rattle.arena.specs.Answers.{cited}
@@ -40,6 +40,17 @@ pair g m n = record { old = to m g; new = to n g }
 -- the slots with one record, in slot 8
 abbrev pub eighth : SeasonGen → ℕ → Slots SeasonGen ℕ
 eighth g v = effect (insert (to 8 g) v) []
+
+-- a span with one insertion, at slot 2, and the directory of the compression that ended it
+abbrev pub span : SeasonGen → ℕ → Span SeasonGen ℕ Pointer
+span g v = record { calls = record { call = insert (to 2 g) v; accepted = true } ∷ []; mapping = kept; directory = filled_slots point (pair g 2 1 ∷ []) }
+
+-- The premises of what joined reports say hold together: of a new arena with that span.
+pub record Followed (g : SeasonGen) (v : ℕ) : Type 0 where
+  pub leads : Leads season_alike (all_ended (span g v ∷ []) []) (Allocated g v ∷ [])
+  pub successive : Successive view (span g v ∷ []) []
+  pub apart : AllApart (span g v ∷ []) []
+  pub given : Gives [] (span g v).calls 0 (view (pointer 2 g))
 
 pub record Worked : Type 0 where
   -- an insertion at 0 is refused with 1, at 8 it gives eight slots, and at 9 it is refused with 1

@@ -4,13 +4,16 @@
 
 #![tactic(auto)]
 
-ghost use Rattle.std.specs.Prelude.{◌≡◌};
-ghost use Rattle.examples.specs.Worked.{Worked};
+ghost use Rattle.std.specs.Prelude.{◌≡◌, ℕ};
+ghost use Rattle.kinds.specs.declared.generation.SeasonGen.{SeasonGen};
+ghost use Rattle.examples.specs.Worked.{Followed, Worked};
 
-/// How many examples there are; the contract has them all, as one statement of the definitions that contracts cite.
+/// How many examples there are; the contract has them all, as one statement of the definitions that contracts cite. It
+/// also has a history of which all premises of the promise on joined reports hold.
 pub fn worked_examples() -> usize
     ensures number { result ≡ 10 }
     ensures worked { Worked }
+    ensures followed { (g : SeasonGen) (v : ℕ) → Followed g v }
 {
     10
 }
