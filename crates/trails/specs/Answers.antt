@@ -1,6 +1,8 @@
 -- What a line of a season gets.
-use Rattle.std.specs.Prelude.{◌≡◌, ℕ, ◌⊎◌, List, [], ◌∷◌, ◌++◌, Some, None, Ok, Err, Option, Result}
+use Rattle.std.specs.Prelude.{◌≡◌, ℕ, cond, List, [], ◌∷◌, ◌++◌, Some, None, Ok, Err, Option, Result}
 use Rattle.answers.specs.declared.refusal.Refusal.{Refusal}
+use Rattle.bulk.specs.Brought.{last_slot}
+use Rattle.history.specs.Mapped.{records}
 use Rattle.history.specs.Records.{found}
 use Rattle.kinds.specs.Kinds.{season_alike}
 use Rattle.lines.specs.Meaning.{line_number}
@@ -12,7 +14,7 @@ use Rattle.season.specs.declared.call.Call.TheVariants.{Insert, Remove, Edit, Co
 use Rattle.slots.specs.Inserted.{insert_answer}
 use Rattle.passages.specs.State.{Pointer, short_view}
 use Rattle.trails.specs.Lines.{written}
-use Rattle.trails.specs.Reports.{held_or_not}
+use Rattle.trails.specs.Reports.{held_or_not, takes}
 use Rattle.trails.specs.declared.line.Line.TheVariants.{Refused}
 use Rattle.trails.specs.declared.trail.Citation.{Citation}
 
@@ -22,14 +24,15 @@ noted p (done u) = done p
 noted p (overflowed u) = overflowed p
 noted p (refused n) = refused n
 
--- A citation gives its pointer, and any other call nothing; a compression is refused with 10 alone.
-abbrev pub Gets : RegisterState → Result Call LineError → Outcome (Option Pointer) → Type 0
-Gets st (Ok (Insert s g v)) o = o ≡ noted None (insert_answer (capacity_of st) (short_view (pointer_at s g)) st.slots)
-Gets st (Ok (Remove s g)) o = o ≡ noted None (held_or_not (found season_alike (short_view (pointer_at s g)) st.slots))
-Gets st (Ok (Edit s g v)) o = o ≡ noted None (held_or_not (found season_alike (short_view (pointer_at s g)) st.slots))
-Gets st (Ok Compress) o = (o ≡ done None) ⊎ (o ≡ refused 10)
-Gets st (Ok (Cite s g)) o = o ≡ noted (Some (pointer_at s g)) (held_or_not (found season_alike (short_view (pointer_at s g)) st.slots))
-Gets st (Err e) o = o ≡ refused (line_number e)
+-- By the register, and by how many slots are lent to each directory that is not filled yet: a citation gives its pointer,
+-- and any other call nothing.
+abbrev pub Gets : RegisterState → List ℕ → Result Call LineError → Outcome (Option Pointer) → Type 0
+Gets st rooms (Ok (Insert s g v)) o = o ≡ noted None (insert_answer (capacity_of st) (short_view (pointer_at s g)) st.slots)
+Gets st rooms (Ok (Remove s g)) o = o ≡ noted None (held_or_not (found season_alike (short_view (pointer_at s g)) st.slots))
+Gets st rooms (Ok (Edit s g v)) o = o ≡ noted None (held_or_not (found season_alike (short_view (pointer_at s g)) st.slots))
+Gets st rooms (Ok Compress) o = o ≡ noted None (cond (takes rooms (last_slot (records st.slots))) (done tt) (refused 10))
+Gets st rooms (Ok (Cite s g)) o = o ≡ noted (Some (pointer_at s g)) (held_or_not (found season_alike (short_view (pointer_at s g)) st.slots))
+Gets st rooms (Err e) o = o ≡ refused (line_number e)
 
 -- What becomes of the text and of the citations at a line that gets this answer, so many compressions having come before.
 abbrev pub Notes : (line before : ℕ) → Result (Option Pointer) Refusal → (cs ds : List Citation) (out grown : List ℕ) → Type 0

@@ -1,7 +1,7 @@
 -- A season's directories and the history of its register.
-use Rattle.std.specs.Prelude.{◌≡◌, ℕ, true, List, [], ◌∷◌, ◌++◌, Some, None, Ok, Err, Option, Result}
+use Rattle.std.specs.Prelude.{◌≡◌, ℕ, ◌+◌, min, true, cond, List, [], ◌∷◌, ◌++◌, Some, None, Ok, Err, Option, Result}
 use Rattle.history.specs.Calls as history
-use Rattle.history.specs.Calls.{Entry, Leads, entry, after, pointer}
+use Rattle.history.specs.Calls.{Entry, Leads, went, entry, after, pointer}
 use Rattle.history.specs.Directories.{Directory}
 use Rattle.history.specs.Mapped.{kept}
 use Rattle.history.specs.Slots.{Slots}
@@ -14,8 +14,10 @@ use Rattle.passages.specs.State.{Pointer, RegisterState, cite, capacity_of, shor
 use Rattle.season.specs.Meaning.{meaning}
 use Rattle.season.specs.declared.call.Call.{Call}
 use Rattle.season.specs.declared.call.Call.TheVariants.{Insert, Remove, Edit, Compress, Cite}
-use Rattle.trails.specs.Answers.{Gets}
-use Rattle.trails.specs.Reports.{copied}
+use Rattle.answers.specs.declared.refusal.Refusal.{Refusal}
+use Rattle.trails.specs.Answers.{Gets, Notes}
+use Rattle.trails.specs.Reports.{of_call, used, copied}
+use Rattle.trails.specs.declared.trail.Citation.{Citation}
 
 -- the call of the register's history that a season's call is; a citation is none
 abbrev pub recorded : Call → Option (history.Call SeasonGen ℕ)
@@ -60,20 +62,48 @@ pub record Chronicle (h : List (Entry SeasonGen ℕ)) (ds : List (Directory Seas
 abbrev pub GoesOn : List (Entry SeasonGen ℕ) → (ds es : List (Directory SeasonGen Pointer)) (s t : Slots SeasonGen ℕ) → Type 0
 GoesOn calls ds es s t = (h : List (Entry SeasonGen ℕ)) → Chronicle h ds s → Chronicle (calls ++ h) es t
 
--- The lines of a season, carried out one after the other: each gets its answer from the register as it then is, and adds
--- its call to the history.
-abbrev pub CarriedOut : RegisterState → List (List ℕ) → List (Entry SeasonGen ℕ) → Type 0
-CarriedOut st [] calls = calls ≡ []
-CarriedOut st (l ∷ ls) calls = (o : Outcome (Option Pointer)) × (mid : RegisterState) × (more : List (Entry SeasonGen ℕ)) ×
-    Gets st (meaning l) o × (mid.slots ≡ left_by (adds (meaning l) o) st.slots) × (capacity_of mid ≡ capacity_of st) × CarriedOut mid ls more × (calls ≡ more ++ adds (meaning l) o)
+-- What a season has come to at a line: the line's number, how many compressions were accepted, the slots lent to each
+-- directory that is left, the register, and what was noted and written.
+pub record Point : Type 0 where
+  pub number : ℕ
+  pub compressions : ℕ
+  pub rooms : List ℕ
+  pub register : RegisterState
+  pub citations : List Citation
+  pub text : List ℕ
 
--- From a register on that has no directory filled: the history goes on by the calls of just these lines.
-pub record Ran (lines : List (List ℕ)) (es : List (Directory SeasonGen Pointer)) (st en : RegisterState) : Type 0 where
+-- before the first line, which is line 2 of the input
+abbrev pub start : List ℕ → RegisterState → List ℕ → Point
+start rooms st text = record { number = 1; compressions = 0; rooms = rooms; register = st; citations = []; text = text }
+
+-- how many compressions were accepted, this line's too
+abbrev pub counted_with : {X : Type 0} → ℕ → Result Call LineError → Outcome X → ℕ
+counted_with k (Ok Compress) o = cond (went o) (k + 1) k
+counted_with k p o = k
+
+-- the directories that are left after this line
+abbrev pub rooms_with : {X : Type 0} → List ℕ → Result Call LineError → Outcome X → List ℕ
+rooms_with rooms (Ok Compress) o = used (went o) rooms
+rooms_with rooms p o = rooms
+
+-- A line is carried out: what it gets from the register as it is, what that leaves, and what is noted or written of it.
+pub record LineDone (a : Point) (p : Result Call LineError) (answer : Result (Option Pointer) Refusal) (b : Point) : Type 0 where
+  pub gets : Gets a.register a.rooms p (of_call answer)
+  pub slots : b.register.slots ≡ left_by (adds p (of_call answer)) a.register.slots
+  pub room : capacity_of b.register ≡ capacity_of a.register
+  pub number : b.number ≡ min (a.number + 1) 18446744073709551615
+  pub compressions : b.compressions ≡ counted_with a.compressions p (of_call answer)
+  pub rooms : b.rooms ≡ rooms_with a.rooms p (of_call answer)
+  pub notes : Notes b.number b.compressions answer a.citations b.citations a.text b.text
+
+-- The lines of a season, carried out one after the other, and the calls that they add to the history.
+abbrev pub CarriedOut : Point → List (List ℕ) → Point → List (Entry SeasonGen ℕ) → Type 0
+CarriedOut a [] z calls = (z ≡ a) × (calls ≡ [])
+CarriedOut a (l ∷ ls) z calls = (answer : Result (Option Pointer) Refusal) × (b : Point) × (more : List (Entry SeasonGen ℕ)) ×
+    LineDone a (meaning l) answer b × CarriedOut b ls z more × (calls ≡ more ++ adds (meaning l) (of_call answer))
+
+-- From a register on that has no directory filled: the lines are carried out, and the history goes on by just their calls.
+pub record Ran (lines : List (List ℕ)) (es : List (Directory SeasonGen Pointer)) (a z : Point) : Type 0 where
   pub calls : List (Entry SeasonGen ℕ)
-  pub carried : CarriedOut st lines calls
-  pub on : GoesOn calls [] es st.slots en.slots
-
--- an input that is no season changes nothing
-abbrev pub RanAll : Option (List (List ℕ)) → List (Directory SeasonGen Pointer) → (st en : RegisterState) → Type 0
-RanAll (Some lines) es st en = Ran lines es st en
-RanAll None es st en = en ≡ st
+  pub carried : CarriedOut a lines z calls
+  pub on : GoesOn calls [] es a.register.slots z.register.slots

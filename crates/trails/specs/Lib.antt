@@ -3,3 +3,4 @@ pub mod Chronicle
 pub mod Lines
 pub mod Reports
 pub mod Today
+pub mod Whole

@@ -1,5 +1,5 @@
 -- A season's calls, and the reports that it keeps.
-use Rattle.std.specs.Prelude.{◌≡◌, ℕ, ◌-◌, ◌<◌, min, nat_le, Bool, true, false, List, [], ◌∷◌, ◌++◌, map, take, Some, None, Ok, Err, Option, Result}
+use Rattle.std.specs.Prelude.{◌≡◌, ℕ, ◌-◌, ◌<◌, min, nat_le, Bool, true, false, List, [], ◌∷◌, ◌++◌, map, take, drop, Some, None, Ok, Err, Option, Result}
 use Rattle.answers.specs.Refusals.{number_of}
 use Rattle.answers.specs.declared.refusal.Refusal.{Refusal}
 use Rattle.history.specs.Directories.{Directory, Holds}
@@ -22,10 +22,20 @@ abbrev pub held_or_not : Option (Held SeasonGen ℕ) → Outcome (Unit {0})
 held_or_not None = refused 3
 held_or_not (Some h) = done tt
 
--- there is a directory, and it has room for so many slots
-abbrev pub takes : Option (FixedStack (DirectSlot SeasonGen Pointer)) → ℕ → Bool
-takes None n = false
-takes (Some d) n = nat_le n (min (fixed_lent d) 65535)
+-- the slots lent to the directories that are not filled yet, the next one first
+abbrev pub rooms_left : ℕ → List (FixedStack (DirectSlot SeasonGen Pointer)) → List ℕ
+rooms_left n ds = map (λ d. fixed_lent d) (drop n ds)
+
+-- there is a next directory, and it has room for so many slots
+abbrev pub takes : List ℕ → ℕ → Bool
+takes [] n = false
+takes (r ∷ rs) n = nat_le n (min r 65535)
+
+-- an accepted compression uses the next one up
+abbrev pub used : Bool → List ℕ → List ℕ
+used false rooms = rooms
+used true [] = []
+used true (r ∷ rs) = rs
 
 -- the slots of directories
 abbrev pub reports_in : List (FixedStack (DirectSlot SeasonGen Pointer)) → List (Directory SeasonGen Pointer)

@@ -1,15 +1,14 @@
 // What each call of a season does to the register and to the directories, and whether it was carried out.
-ghost use Rattle.std.specs.Prelude.{◌≡◌, ◌+◌, false, cond, length, drop, IfErr};
-ghost use Rattle.std.specs.List.{slice_get};
+ghost use Rattle.std.specs.Prelude.{◌≡◌, ◌+◌, cond};
 ghost use Rattle.bulk.specs.Brought.{last_slot};
-ghost use Rattle.answers.specs.Refusals.{number_of};
+ghost use Rattle.outcome.specs.Outcome.{done, refused};
 ghost use Rattle.history.specs.Calls.{insert as insertion, edit as editing, remove as removal, compress as compression, pointer as by_pointer, went, entry, Step};
 ghost use Rattle.history.specs.Mapped.{records, report, kept};
 ghost use Rattle.kinds.specs.Kinds.{season_alike};
 ghost use Rattle.passages.specs.State.{register_of, capacity_of, short_view};
 ghost use Rattle.slots.specs.Inserted.{insert_answer};
 ghost use Rattle.slots.specs.Records.{found};
-ghost use Rattle.trails.specs.Reports.{of_call, held_or_not, first_reports, takes, Added};
+ghost use Rattle.trails.specs.Reports.{of_call, held_or_not, first_reports, rooms_left, takes, used, Added};
 
 use answers::refusal::Refusal;
 use directory::compress_into;
@@ -50,10 +49,9 @@ pub(crate) fn compress(
     filled: &mut usize,
 ) -> Result<(), Refusal>
     ensures step { Step season_alike (entry (compression kept) (of_call result)) (register_of register.old).slots (register_of register.new).slots }
-    ensures only { IfErr result (λ r. (number_of r ≡ 10) × (takes (slice_get directories.old.items filled.old) (last_slot (records (register_of register.old).slots)) ≡ false)) }
+    ensures answer { of_call result ≡ cond (takes (rooms_left filled.old directories.old.items) (last_slot (records (register_of register.old).slots))) (done tt) (refused 10) }
     ensures filled { filled.new ≡ cond (went (of_call result)) (filled.old + 1) filled.old }
-    ensures others { drop (filled.old + 1) directories.new.items ≡ drop (filled.old + 1) directories.old.items }
-    ensures many { length directories.new.items ≡ length directories.old.items }
+    ensures rooms { rooms_left filled.new directories.new.items ≡ used (went (of_call result)) (rooms_left filled.old directories.old.items) }
     ensures added { Added (went (of_call result)) (report (records (register_of register.old).slots)) (first_reports filled.old directories.old.items) (first_reports filled.new directories.new.items) }
     ensures room { capacity_of (register_of register.new) ≡ capacity_of (register_of register.old) }
 {

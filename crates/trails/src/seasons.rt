@@ -1,12 +1,13 @@
 // A season from its first line to its last, and then the trails of its citations.
-ghost use Rattle.std.specs.Prelude.{◌≡◌, [], IfOk, OnOk, string_bytes};
+ghost use Rattle.std.specs.Prelude.{◌≡◌, ℕ, [], IfOk, OnOk, string_bytes};
 ghost use Rattle.lines.specs.Script.{script_of};
 ghost use Rattle.passages.specs.State.{register_of, capacity_of};
 ghost use Rattle.stack.specs.Fixed.{fixed_lent};
 ghost use Rattle.text.specs.Split.{lines_of};
-ghost use Rattle.trails.specs.Chronicle.{adds, left_by, GoesOn, Ran, RanAll};
+ghost use Rattle.trails.specs.Chronicle.{adds, left_by, counted_with, rooms_with, GoesOn, Ran};
+ghost use Rattle.trails.specs.Whole.{Whole, WholeOf};
 ghost use Rattle.trails.specs.Answers.{Gets, Notes};
-ghost use Rattle.trails.specs.Reports.{of_call, reports_in, first_reports};
+ghost use Rattle.trails.specs.Reports.{of_call, reports_in, first_reports, rooms_left};
 ghost use Rattle.trails.specs.Today.{AllTold};
 
 use crate::calls;
@@ -28,10 +29,12 @@ fn carry_out(
     filled: &mut usize,
     line: Result<Call, LineError>,
 ) -> Result<Option<Pointer>, Refusal>
-    ensures answer { Gets (register_of register.old) line (of_call result) }
+    ensures answer { Gets (register_of register.old) (rooms_left filled.old directories.old.items) line (of_call result) }
     ensures chronicle { GoesOn (adds line (of_call result)) (first_reports filled.old directories.old.items) (first_reports filled.new directories.new.items) (register_of register.old).slots (register_of register.new).slots }
     ensures slots { (register_of register.new).slots ≡ left_by (adds line (of_call result)) (register_of register.old).slots }
     ensures room { capacity_of (register_of register.new) ≡ capacity_of (register_of register.old) }
+    ensures filled { filled.new ≡ counted_with filled.old line (of_call result) }
+    ensures rooms { rooms_left filled.new directories.new.items ≡ rooms_with (rooms_left filled.old directories.old.items) line (of_call result) }
 {
     match line? {
         Call::Insert {
@@ -87,7 +90,7 @@ fn add_season(
     directories: &mut Vec<Directory<'_>>,
     lines: &[u8],
 ) -> Result<usize, AllocError>
-    ensures { IfOk result (λ n. Ran (lines_of lines.now) (first_reports n directories.new.items) (register_of register.old) (register_of register.new)) }
+    ensures { IfOk result (λ n. (number : ℕ) × Ran (lines_of lines.now) (first_reports n directories.new.items) (record { number = 1; compressions = 0; rooms = rooms_left 0 directories.old.items; register = register_of register.old; citations = citations.old.items; text = string_bytes out.old }) (record { number = number; compressions = n; rooms = rooms_left n directories.new.items; register = register_of register.new; citations = citations.new.items; text = string_bytes out.new })) }
 {
     let mut filled = 0;
     let mut number: usize = 1;
@@ -123,7 +126,7 @@ fn add_all(
     scratch: &mut Directory<'_>,
     lines: &[u8],
 ) -> Result<(), AllocError>
-    ensures { OnOk result (Ran (lines_of lines.now) (reports_in directories.new.items) (register_of register.old) (register_of register.new)) }
+    ensures { OnOk result (Whole (lines_of lines.now) (rooms_left 0 directories.old.items) (fixed_lent scratch.old) directories.new.items (register_of register.old) (register_of register.new) (string_bytes out.old) (string_bytes out.new)) }
 {
     let mut citations = Vec::new(heap);
     let compressions = add_season(out, &mut citations, register, directories, lines)?;
@@ -145,7 +148,8 @@ fn add_all(
     )
 }
 
-/// What is written of a season: its refusals, its totals, and the trail of each of its citations.
+/// What is written of a season: its refusals, its totals, and the trail of each of its citations. The directories that no
+/// compression filled are let go; what the scratch directory then holds is left open.
 pub fn run(
     heap: Global,
     register: &mut Register<'_>,
@@ -153,7 +157,7 @@ pub fn run(
     scratch: &mut Directory<'_>,
     input: &[u8],
 ) -> Result<String, AllocError>
-    ensures { OnOk result (RanAll (script_of input.now) (reports_in directories.new.items) (register_of register.old) (register_of register.new)) }
+    ensures { IfOk result (λ out. WholeOf (script_of input.now) (fixed_lent scratch.old) directories.old.items directories.new.items (register_of register.old) (register_of register.new) (string_bytes out)) }
 {
     let mut out = String::new(heap);
     match after_names(input) {

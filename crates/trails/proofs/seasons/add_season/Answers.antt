@@ -1,8 +1,12 @@
+use Rattle.std.proofs.Common.{rules}
 use Rattle.trails.proofs.Goings.{one_more, all_ran}
 use Rattle.trails.proofs.seasons.add_season.Goals as goal
 
 pub loop-line-preserved : goal.loop-line-preserved
-loop-line-preserved c = one_more {line = c.in-Some.line.now} _ c.loop-line.invariant c.in-Some.ensures.steps c.parse.ensures.meaning c.carry_out-answer.ensures.answer c.carry_out-answer.ensures.chronicle c.carry_out-answer.ensures.slots c.carry_out-answer.ensures.room
+loop-line-preserved c =
+    let a = c.carry_out-answer.ensures in
+    one_more {line = c.in-Some.line.now} c.carry_out-answer.result c.loop-line.invariant c.in-Some.ensures.steps c.parse.ensures.meaning a.chronicle
+    (record { gets = a.answer; slots = a.slots; room = a.room; number = search rules; compressions = a.filled; rooms = a.rooms; notes = search rules })
 
 pub returns : goal.returns
-returns c = all_ran c.loop-line.invariant c.in-None.ensures.steps.0
+returns c = (_, all_ran c.loop-line.invariant c.in-None.ensures.steps.0)
