@@ -1,0 +1,33 @@
+//! The program that answers call scripts as the Rust crate does, so that the two can be compared line by line.
+//! It uses `arena`, `directory`, the stacks and `text`; nothing uses it, and it knows the two kinds of index by name alone.
+//! Nothing is promised of it but that it ends and never panics: what it writes is compared (docs/BESIDE.md).
+
+#![tactic(auto)]
+
+mod call;
+mod correction;
+mod held;
+mod kind;
+mod one;
+mod parse;
+mod pool;
+mod script;
+mod shelf;
+mod two;
+mod value;
+mod word;
+mod world;
+
+use script::run;
+use std::io;
+use std::io::{Read, Write};
+
+// More than any script that was compared.
+const MOST: u64 = 1 << 30;
+
+fn main(rt: HostRuntime) -> io::Result<()> {
+    let mut input = Vec::new(rt.alloc());
+    rt.stdin().take(MOST).read_to_end(&mut input)?;
+    let answers = run(rt.alloc(), input.as_slice())?;
+    rt.stdout().write_all(answers.as_bytes())
+}

@@ -1,0 +1,146 @@
+// Calls on two arenas, and the answers to them.
+
+use crate::correction::{Correction, Witness};
+use crate::kind::{Kind, write_pointer};
+use crate::one::{refusal, write_report, write_tail};
+use crate::value::Value;
+use crate::word::Fault;
+use arena::DirectArena;
+use directory::compress_into;
+use kinds::DirectSlot;
+use mapper::Recaster;
+use outcome::{ArenaReallocationError, DirectoryError};
+use stack::NonZeroInxGenericStack;
+use std::alloc::{AllocError, Global};
+
+fn write_verdict(
+    verdict: Result<(), ArenaReallocationError>,
+    out: &mut String,
+) -> Result<(), AllocError> {
+    match verdict {
+        Ok(()) => out.push_str("ok"),
+        Err(error) => write!(out, "{}", refusal(error)),
+    }
+}
+
+pub fn clone_from<
+    P: Kind,
+    V: Value<P>,
+    S: NonZeroInxGenericStack<Slot = DirectSlot<P::Gen, V>>,
+    T: NonZeroInxGenericStack<Slot = DirectSlot<P::Gen, V>>,
+>(
+    heap: Global,
+    arena: &mut DirectArena<P, V, S>,
+    source: &DirectArena<P, V, T>,
+    correction: Correction,
+    out: &mut String,
+) -> Result<(), Fault> {
+    if !V::admits(correction.amount()) {
+        return Err(Fault::Malformed);
+    }
+    let mut witness = Witness::new(heap, correction);
+    write_verdict(arena.clone_from_with(source, &mut witness), out)?;
+    Ok(write_tail(arena, out)?)
+}
+
+pub fn transfer_from<
+    P: Kind,
+    V: Value<P>,
+    S: NonZeroInxGenericStack<Slot = DirectSlot<P::Gen, V>>,
+    T: NonZeroInxGenericStack<Slot = DirectSlot<P::Gen, V>>,
+>(
+    heap: Global,
+    arena: &mut DirectArena<P, V, S>,
+    source: &mut DirectArena<P, V, T>,
+    generation: P::Gen,
+    correction: Correction,
+    out: &mut String,
+) -> Result<(), Fault> {
+    if !V::admits(correction.amount()) {
+        return Err(Fault::Malformed);
+    }
+    let mut witness = Witness::new(heap, correction);
+    let verdict = arena.transfer_reallocating(generation, source, &mut witness);
+    write_verdict(verdict, out)?;
+    write_tail(arena, out)?;
+    Ok(write_tail(source, out)?)
+}
+
+/// The report goes into the directory; a refusal shows the directory's number and what it carries.
+pub fn compress_to<
+    P: Kind,
+    V: Value<P>,
+    S: NonZeroInxGenericStack<Slot = DirectSlot<P::Gen, V>>,
+    D: NonZeroInxGenericStack<Slot = DirectSlot<P::Gen, P>>,
+>(
+    heap: Global,
+    arena: &mut DirectArena<P, V, S>,
+    directory: &mut DirectArena<P, P, D>,
+    correction: Correction,
+    out: &mut String,
+) -> Result<(), Fault> {
+    if !V::admits(correction.amount()) {
+        return Err(Fault::Malformed);
+    }
+    let mut witness = Witness::new(heap, correction);
+    match compress_into(arena, directory, &mut witness) {
+        Ok(()) => out.push_str("ok")?,
+        Err(DirectoryError::NoRoom(error)) => write!(out, "10 {}", refusal(error))?,
+    }
+    write_tail(arena, out)?;
+    Ok(write_tail(directory, out)?)
+}
+
+/// The new pointer, or 9 and the pointer asked for.
+pub fn recast_one<P: Kind, D: NonZeroInxGenericStack<Slot = DirectSlot<P::Gen, P>>>(
+    directory: &DirectArena<P, P, D>,
+    p: P,
+    out: &mut String,
+) -> Result<(), AllocError>
+where
+    DirectArena<P, P, D>: Recaster<P>,
+{
+    match directory.recast_item(p) {
+        Ok(new) => {
+            out.push_str("ok ")?;
+            write_pointer(new, out)
+        }
+        Err(lost) => {
+            out.push_str("9 ")?;
+            write_pointer(lost.pointer, out)
+        }
+    }
+}
+
+pub fn recast_by<
+    P: Kind + Value<P>,
+    S: NonZeroInxGenericStack<Slot = DirectSlot<P::Gen, P>>,
+    D: NonZeroInxGenericStack<Slot = DirectSlot<P::Gen, P>>,
+>(
+    arena: &mut DirectArena<P, P, S>,
+    directory: &DirectArena<P, P, D>,
+    out: &mut String,
+) -> Result<(), AllocError> {
+    match arena.recast(directory) {
+        Ok(()) => out.push_str("ok")?,
+        Err(lost) => {
+            out.push_str("9 ")?;
+            write_pointer(lost.pointer, out)?;
+        }
+    }
+    write_tail(arena, out)
+}
+
+pub fn join_with<
+    P: Kind,
+    S: NonZeroInxGenericStack<Slot = DirectSlot<P::Gen, P>>,
+    D: NonZeroInxGenericStack<Slot = DirectSlot<P::Gen, P>>,
+>(
+    arena: &mut DirectArena<P, P, S>,
+    directory: &DirectArena<P, P, D>,
+    out: &mut String,
+) -> Result<(), AllocError> {
+    arena.join(directory);
+    out.push_str("ok")?;
+    write_tail(arena, out)
+}
