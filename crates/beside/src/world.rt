@@ -30,6 +30,16 @@ pub struct World<
     advancers: Vec<(&'t [u8], PtrAdvancer<P>)>,
 }
 
+// The same code over either stack.
+macro_rules! over {
+    ($held:expr, $arena:ident => $call:expr) => {
+        match $held {
+            Held::Fixed($arena) => $call,
+            Held::Limited($arena) => $call,
+        }
+    };
+}
+
 // Makes a call on one arena, whatever it is over.
 fn on_one<
     P: Kind,
@@ -64,12 +74,7 @@ fn clone_held<
     d: Correction,
     out: &mut String,
 ) -> Result<(), Fault> {
-    match (first, second) {
-        (Held::Fixed(a), Held::Fixed(b)) => clone_from(heap, a, b, d, out),
-        (Held::Fixed(a), Held::Limited(b)) => clone_from(heap, a, b, d, out),
-        (Held::Limited(a), Held::Fixed(b)) => clone_from(heap, a, b, d, out),
-        (Held::Limited(a), Held::Limited(b)) => clone_from(heap, a, b, d, out),
-    }
+    over!(first, a => over!(second, b => clone_from(heap, a, b, d, out)))
 }
 
 fn transfer_held<
@@ -85,12 +90,7 @@ fn transfer_held<
     d: Correction,
     out: &mut String,
 ) -> Result<(), Fault> {
-    match (first, second) {
-        (Held::Fixed(a), Held::Fixed(b)) => transfer_from(heap, a, b, generation, d, out),
-        (Held::Fixed(a), Held::Limited(b)) => transfer_from(heap, a, b, generation, d, out),
-        (Held::Limited(a), Held::Fixed(b)) => transfer_from(heap, a, b, generation, d, out),
-        (Held::Limited(a), Held::Limited(b)) => transfer_from(heap, a, b, generation, d, out),
-    }
+    over!(first, a => over!(second, b => transfer_from(heap, a, b, generation, d, out)))
 }
 
 fn compress_held<
@@ -107,12 +107,7 @@ fn compress_held<
     d: Correction,
     out: &mut String,
 ) -> Result<(), Fault> {
-    match (first, second) {
-        (Held::Fixed(a), Held::Fixed(b)) => compress_to(heap, a, b, d, out),
-        (Held::Fixed(a), Held::Limited(b)) => compress_to(heap, a, b, d, out),
-        (Held::Limited(a), Held::Fixed(b)) => compress_to(heap, a, b, d, out),
-        (Held::Limited(a), Held::Limited(b)) => compress_to(heap, a, b, d, out),
-    }
+    over!(first, a => over!(second, b => compress_to(heap, a, b, d, out)))
 }
 
 fn recast_held<
@@ -124,12 +119,7 @@ fn recast_held<
     second: &Held<P, P, G, M>,
     out: &mut String,
 ) -> Result<(), AllocError> {
-    match (first, second) {
-        (Held::Fixed(a), Held::Fixed(b)) => recast_by(a, b, out),
-        (Held::Fixed(a), Held::Limited(b)) => recast_by(a, b, out),
-        (Held::Limited(a), Held::Fixed(b)) => recast_by(a, b, out),
-        (Held::Limited(a), Held::Limited(b)) => recast_by(a, b, out),
-    }
+    over!(first, a => over!(second, b => recast_by(a, b, out)))
 }
 
 fn join_held<
@@ -141,12 +131,7 @@ fn join_held<
     second: &Held<P, P, G, M>,
     out: &mut String,
 ) -> Result<(), AllocError> {
-    match (first, second) {
-        (Held::Fixed(a), Held::Fixed(b)) => join_with(a, b, out),
-        (Held::Fixed(a), Held::Limited(b)) => join_with(a, b, out),
-        (Held::Limited(a), Held::Fixed(b)) => join_with(a, b, out),
-        (Held::Limited(a), Held::Limited(b)) => join_with(a, b, out),
-    }
+    over!(first, a => over!(second, b => join_with(a, b, out)))
 }
 
 fn begin<
@@ -155,14 +140,11 @@ fn begin<
     F: NonZeroInxGenericStack<Slot = DirectSlot<P::Gen, V>>,
     L: SetMaxCapacity<Slot = DirectSlot<P::Gen, V>>,
 >(held: &Held<P, V, F, L>, start: Start<P>) -> PtrAdvancer<P> {
-    match (held, start) {
-        (Held::Fixed(arena), Start::Forward) => arena.advancer(),
-        (Held::Fixed(arena), Start::Backward) => arena.rev_advancer(),
-        (Held::Fixed(arena), Start::At { inx, rev }) => arena.advancer_inx(inx, rev),
-        (Held::Limited(arena), Start::Forward) => arena.advancer(),
-        (Held::Limited(arena), Start::Backward) => arena.rev_advancer(),
-        (Held::Limited(arena), Start::At { inx, rev }) => arena.advancer_inx(inx, rev),
-    }
+    over!(held, arena => match start {
+        Start::Forward => arena.advancer(),
+        Start::Backward => arena.rev_advancer(),
+        Start::At { inx, rev } => arena.advancer_inx(inx, rev),
+    })
 }
 
 fn advance<
@@ -171,10 +153,7 @@ fn advance<
     F: NonZeroInxGenericStack<Slot = DirectSlot<P::Gen, V>>,
     L: SetMaxCapacity<Slot = DirectSlot<P::Gen, V>>,
 >(advancer: &mut PtrAdvancer<P>, held: &Held<P, V, F, L>) -> Option<P> {
-    match held {
-        Held::Fixed(arena) => advancer.advance(arena),
-        Held::Limited(arena) => advancer.advance(arena),
-    }
+    over!(held, arena => advancer.advance(arena))
 }
 
 impl<
@@ -206,11 +185,7 @@ impl<
         }
         let held = self.pointers.get(name).ok_or(Fault::Malformed)?;
         if let One::Recast(p) = call {
-            match held {
-                Held::Fixed(directory) => recast_one(directory, *p, out)?,
-                Held::Limited(directory) => recast_one(directory, *p, out)?,
-            }
-            return Ok(());
+            return Ok(over!(held, directory => recast_one(directory, *p, out))?);
         }
         on_one(self.heap, held, call, out)
     }

@@ -1,0 +1,32 @@
+#!/usr/bin/env bash
+# Compares `beside` with the Rust crate on random calls: tools/compare.sh ORACLE FROM TO CALLS [OPTIONS]
+# ORACLE is a folder with build/oracle and gen.py (docs/BESIDE.md). Each seed from FROM to TO makes a script of so many calls, with
+# the options of gen.py that are given. Prints the first line that differs of each script that does, and at last how many lines were
+# compared, how many scripts differ, and a checksum of the crate's answers. Exits with 1 where a script differs.
+set -eu
+oracle=$(cd "${1:?the folder of the oracle}" && pwd)
+from=${2:?the first seed} to=${3:?the last seed} calls=${4:?the calls of a script}
+shift 4
+cd "$(dirname "$0")/../crates/beside"
+beside=out/beside
+[[ -x $beside ]] || rt run < /dev/null > /dev/null # builds it
+work=$(mktemp -d)
+trap 'rm -rf "$work"' EXIT
+
+lines=0 differ=0
+for seed in $(seq "$from" "$to"); do
+  python3 "$oracle/gen.py" "$seed" "$calls" --no-heap "$@" > "$work/script"
+  "$oracle/build/oracle" < "$work/script" > "$work/crate"
+  "$beside" < "$work/script" > "$work/port" || echo "seed $seed: exit status $?"
+  cat "$work/crate" >> "$work/all"
+  lines=$((lines + $(wc -l < "$work/script")))
+  if ! cmp -s "$work/crate" "$work/port"; then
+    differ=$((differ + 1))
+    line=$(cmp "$work/crate" "$work/port" 2>&1 | sed -n 's/.*line \([0-9]*\).*/\1/p')
+    echo "seed $seed, line $line: $(sed -n "${line}p" "$work/script")"
+    echo "  the crate: $(sed -n "${line}p" "$work/crate" | cut -c1-200)"
+    echo "  the port:  $(sed -n "${line}p" "$work/port" | cut -c1-200)"
+  fi
+done
+echo "$lines lines of $((to - from + 1)) scripts, $differ differ; crate's answers $(sha256sum < "$work/all" | cut -c1-16)  $*"
+[[ $differ -eq 0 ]]
