@@ -1,8 +1,8 @@
 -- One slot written: how the list, its length and its count change.
-use Rattle.std.proofs.Common.{◌≡◌, ℕ, zero, suc, ◌+◌, ◌-◌, ◌<◌, ◌≤◌, max, true, [], ◌∷◌, length, set, replicate, refl, append-nil, arith}
-use Rattle.std.proofs.lemmas.Option.{gets}
+use Rattle.std.proofs.Common.{◌≡◌, ℕ, zero, suc, ◌+◌, ◌-◌, ◌<◌, ◌≤◌, max, true, [], ◌∷◌, length, set, replicate, Some, refl, append-nil, arith}
+use Rattle.std.proofs.lemmas.Option.{gets, slice_get_within}
 use Rattle.std.specs.List.{slice_get}
-use Rattle.kinds.specs.Places.{slot_put}
+use Rattle.kinds.specs.Places.{slot_at, slot_put}
 use Rattle.kinds.specs.declared.slot.DirectSlot.{DirectSlot}
 use Rattle.kinds.specs.declared.slot.DirectSlot.TheVariants.{Free}
 use Rattle.history.specs.Slots.{Slots, or_free, at, count, is_free, is_held, place, write}
@@ -44,6 +44,11 @@ module _ {G V : Type 0} where
   pub write_held : (s : Slots G V) (n : ℕ) (x : DirectSlot G V) → is_held (at n s) ≡ true → (slot_put s n x ≡ write n x s) × (count (write n x s) + 1 ≡ count s + taken x) × (length (write n x s) ≡ length s)
   write_held s zero x h = cc
   write_held s (suc i) x h = grind (arith, gets, set_place s i x, count_place s i x, length_place s i x)
+
+  -- a slot that is there and free
+  pub write_free : (s : Slots G V) (n : ℕ) (x : DirectSlot G V) → slot_at s n ≡ Some Free → (slot_put s n x ≡ write n x s) × (count (write n x s) ≡ count s + taken x) × (length (write n x s) ≡ max n (length s))
+  write_free s zero x h = cc
+  write_free s (suc i) x h = grind (arith, slice_get_within s i Free, set_place s i x, count_place s i x, length_place s i x)
 
   -- a vacant slot, behind as many free ones as it needs
   pub write_vacant : (s : Slots G V) (n : ℕ) (x : DirectSlot G V) → 1 ≤ n → is_free (at n s) ≡ true → (slot_put (filled s n) n x ≡ write n x s) × (count (write n x s) ≡ count s + taken x) × (length (write n x s) ≡ max n (length s))
