@@ -92,22 +92,19 @@ fn up_to(slots: usize) -> Vec<Cited> {
     (1..=slots).map(at).collect()
 }
 
-/// Of one in three the season is another; the others are free slots, and slots beyond the last.
-fn misses(standing: &[Cited], slots: usize) -> Vec<Cited> {
-    let last = standing.last().map_or(0, |c| c.slot as usize);
-    let taken: Vec<u32> = standing.iter().map(|c| c.slot).collect();
-    let free = up_to(slots)
-        .into_iter()
-        .filter(|c| taken.binary_search(&c.slot).is_err());
-    let (within, beyond): (Vec<Cited>, Vec<Cited>) = free.partition(|c| c.slot as usize <= last);
-    let third = beyond.len();
-    let others = standing.iter().map(|c| Cited {
+/// The same slots, each with another season.
+fn other_seasons(standing: &[Cited]) -> Vec<Cited> {
+    let other = |c: &Cited| Cited {
         season: c.season + 1,
         ..*c
-    });
-    let mut all: Vec<Cited> = others.take(third).collect();
-    all.extend(within.into_iter().take(third));
-    all.extend(beyond);
+    };
+    standing.iter().map(other).collect()
+}
+
+/// The slots that nothing stands in.
+fn free(standing: &[Cited], slots: usize) -> Vec<Cited> {
+    let mut all = up_to(slots);
+    all.retain(|c| standing.binary_search_by_key(&c.slot, |s| s.slot).is_err());
     all
 }
 
@@ -116,9 +113,9 @@ fn on_records(kind: Kind, slots: usize, cases: &mut Vec<Case>) {
     let mut numbers = Numbers(0x9E37_79B9_7F4A_7C15);
     let every = up_to(slots);
     let mixed = numbers.shuffled(&every);
-    let sparse = numbers.some(&up_to(slots * 2 / 3), slots / 2 * 2 / 3);
-    let missed = numbers.shuffled(&misses(&sparse, slots));
+    let others = other_seasons(&mixed);
     let some = numbers.some(&every, slots / 2);
+    let gaps = numbers.shuffled(&free(&some, slots));
     let led = numbers.shuffled(&some);
     let lists = slots / 8;
     let mut add = |work, name: &str, standing: &[Cited], asked: &[Cited], per, unit| {
@@ -136,7 +133,8 @@ fn on_records(kind: Kind, slots: usize, cases: &mut Vec<Case>) {
     add(Work::Insert, "insert, rising", &[], &every, slots, "call");
     add(Work::Insert, "insert, random", &[], &mixed, slots, "call");
     add(Work::Get, "get, hit", &every, &mixed, slots, "call");
-    add(Work::Get, "get, miss", &sparse, &missed, missed.len(), "call");
+    add(Work::Get, "get, other season", &every, &others, slots, "call");
+    add(Work::Get, "get, free slot", &some, &gaps, gaps.len(), "call");
     add(Work::Edit, "edit", &every, &mixed, slots, "call");
     add(Work::Remove, "remove", &every, &mixed, slots, "call");
     add(Work::ListEdit, "list edit of 8", &every, &mixed, lists, "call");

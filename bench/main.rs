@@ -1,5 +1,7 @@
 //! Times the library beside the Rust crate: the same inputs, equal capacities, alternating runs.
-//! It prints a table of times and ratios, and ends with status 1 where the two sides gave different checksums.
+//!
+//! `bench measure [TEXT]` writes what it measured of the cases whose title has TEXT; `bench table FILE` prints the table
+//! of what several such runs wrote, and ends with status 1 where the sides gave different checksums.
 
 mod cases;
 mod ours;
@@ -7,13 +9,21 @@ mod table;
 mod theirs;
 
 use cases::{Case, Cited, Kind};
-use table::{Row, Sides};
+use table::Sides;
+
+// Each link moves the code of both sides by this many bytes: loops run faster or slower by where they begin.
+#[cfg(pad = "16")]
+std::arch::global_asm!(".section .text.pad,\"axR\",@progbits", ".space 16");
+#[cfg(pad = "32")]
+std::arch::global_asm!(".section .text.pad,\"axR\",@progbits", ".space 32");
+#[cfg(pad = "48")]
+std::arch::global_asm!(".section .text.pad,\"axR\",@progbits", ".space 48");
 
 /// How often the sides take turns at a case.
-const ROUNDS: usize = 15;
+const ROUNDS: usize = 3;
 
 /// How long one side's turn should last, in nanoseconds, what is not timed included.
-const TURN: u64 = 12_000_000;
+const TURN: u64 = 6_000_000;
 
 const MOST_SAMPLES: usize = 400;
 
@@ -50,38 +60,37 @@ fn samples(case: &Case, sides: &Sides<Side>) -> usize {
     ((TURN / one.max(1)) as usize).clamp(5, MOST_SAMPLES)
 }
 
-fn measure(case: &Case) -> Row {
+/// A line for each round: the case, and of each side the median and the checksum.
+fn measure(case: &Case) {
     let sides = sides(case.kind);
     // the first sample finds the caches cold, and is left out
     let mut nanos = vec![0; samples(case, &sides) + 1];
-    let mut medians = Sides::<Vec<u64>>::default();
-    let mut sums = Sides::<u64>::default();
     for round in 0..ROUNDS {
+        let mut line = Sides::<[u64; 2]>::default();
         for turn in 0..3 {
             let place = (round + turn) % 3;
-            *sums.each_mut()[place] = sides.each()[place](case, &mut nanos);
-            medians.each_mut()[place].push(median(&mut nanos[1..]));
+            let sum = sides.each()[place](case, &mut nanos);
+            *line.each_mut()[place] = [median(&mut nanos[1..]), sum];
         }
+        println!("{}\t{}", case.title(), table::written(&line));
     }
-    Row::new(case, medians, sums)
 }
 
 fn main() {
-    let only = std::env::args().nth(1).unwrap_or_default();
-    let mut agree = true;
-    table::heading();
-    for case in cases::all() {
-        if !case.title().contains(&only) {
-            continue;
+    let mut args = std::env::args().skip(1);
+    match (args.next().as_deref(), args.next()) {
+        (Some("measure"), text) => {
+            let text = text.unwrap_or_default();
+            let cases = cases::all().into_iter();
+            cases.filter(|case| case.title().contains(&text)).for_each(|case| measure(&case));
         }
-        let row = measure(&case);
-        agree &= row.agree();
-        println!("{row}");
-    }
-    println!();
-    table::memory();
-    if !agree {
-        eprintln!("the two sides gave different checksums");
-        std::process::exit(1);
+        (Some("table"), Some(file)) => {
+            let lines = std::fs::read_to_string(file).expect("what was measured");
+            if !table::print(&cases::all(), &lines) {
+                eprintln!("the sides gave different checksums");
+                std::process::exit(1);
+            }
+        }
+        _ => panic!("bench measure [TEXT], or bench table FILE"),
     }
 }

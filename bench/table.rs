@@ -6,7 +6,7 @@ use crate::cases::Case;
 use crate::{ours, theirs};
 
 /// The library, the crate with its own generation, and the crate with a generation of all 32 bits.
-#[derive(Default)]
+#[derive(Clone, Default)]
 pub struct Sides<T> {
     pub port: T,
     pub own: T,
@@ -23,97 +23,100 @@ impl<T> Sides<T> {
     }
 }
 
-pub struct Row {
-    title: [String; 3],
-    unit: &'static str,
-    nanos: Sides<f64>,
-    own: Ratio,
-    alike: Ratio,
-    sums: Sides<u64>,
+/// A round as a line has it behind the case's title: of each side the time and the checksum.
+pub fn written(round: &Sides<[u64; 2]>) -> String {
+    let numbers = round.each().map(|[time, sum]| format!("{time} {sum}"));
+    numbers.join(" ")
 }
 
-/// Of the ratios of all rounds: the median, and the quartiles.
-struct Ratio {
-    low: f64,
-    middle: f64,
-    high: f64,
+fn read(text: &str) -> Option<Sides<[u64; 2]>> {
+    let numbers: Vec<u64> = text.split(' ').filter_map(|n| n.parse().ok()).collect();
+    let [p, ps, o, os, a, als] = *numbers.as_slice() else {
+        return None;
+    };
+    Some(Sides {
+        port: [p, ps],
+        own: [o, os],
+        alike: [a, als],
+    })
 }
 
-impl Ratio {
-    fn of(port: &[u64], other: &[u64]) -> Ratio {
-        let mut ratios: Vec<f64> = port
-            .iter()
-            .zip(other)
-            .map(|(p, o)| *p as f64 / (*o).max(1) as f64)
-            .collect();
-        ratios.sort_by(f64::total_cmp);
-        let at = |part: usize| ratios[(ratios.len() - 1) * part / 4];
-        Ratio {
-            low: at(1),
-            middle: at(2),
-            high: at(3),
-        }
+struct Row<'a> {
+    case: &'a Case,
+    rounds: Vec<Sides<[u64; 2]>>,
+}
+
+/// The lowest quarter, the middle and the highest quarter.
+struct Spread([f64; 3]);
+
+impl Spread {
+    fn of(numbers: impl Iterator<Item = f64>) -> Spread {
+        let mut sorted: Vec<f64> = numbers.collect();
+        sorted.sort_by(f64::total_cmp);
+        Spread([1, 2, 3].map(|quarter| sorted[(sorted.len() - 1) * quarter / 4]))
     }
 }
 
-impl fmt::Display for Ratio {
+impl fmt::Display for Spread {
     fn fmt(&self, f: &mut fmt::Formatter<'_>) -> fmt::Result {
-        write!(f, "{:.2} ({:.2}..{:.2})", self.middle, self.low, self.high)
+        let Spread([low, middle, high]) = self;
+        write!(f, "{middle:.2} ({low:.2}..{high:.2})")
     }
 }
 
-fn per_unit(medians: &[u64], per: usize) -> f64 {
-    let mut sorted = medians.to_vec();
-    sorted.sort_unstable();
-    sorted[sorted.len() / 2] as f64 / per as f64
-}
-
-impl Row {
-    pub fn new(case: &Case, medians: Sides<Vec<u64>>, sums: Sides<u64>) -> Row {
-        let [port, own, alike] = medians.each().map(|m| per_unit(m, case.per));
-        Row {
-            title: [
-                format!("{:?}", case.kind),
-                case.slots.to_string(),
-                case.name.clone(),
-            ],
-            unit: case.unit,
-            nanos: Sides { port, own, alike },
-            own: Ratio::of(&medians.port, &medians.own),
-            alike: Ratio::of(&medians.port, &medians.alike),
-            sums,
-        }
+impl Row<'_> {
+    fn times(&self, side: usize) -> Spread {
+        let one = |r: &Sides<[u64; 2]>| r.each()[side][0] as f64 / self.case.per as f64;
+        Spread::of(self.rounds.iter().map(one))
     }
 
-    /// Whether all sides gave one checksum, and not that of a run that found no memory.
-    pub fn agree(&self) -> bool {
-        self.sums.each().iter().all(|sum| **sum == self.sums.port) && self.sums.port != 0
+    fn ratio(&self, side: usize) -> Spread {
+        let one = |r: &Sides<[u64; 2]>| r.port[0] as f64 / r.each()[side][0].max(1) as f64;
+        Spread::of(self.rounds.iter().map(one))
+    }
+
+    /// Whether all sides gave one checksum in each round, and not that of a run that found no memory.
+    fn agree(&self) -> bool {
+        let one = |r: &Sides<[u64; 2]>| r.port[1] != 0 && r.each().iter().all(|s| s[1] == r.port[1]);
+        self.rounds.iter().all(one)
     }
 }
 
-impl fmt::Display for Row {
+impl fmt::Display for Row<'_> {
     fn fmt(&self, f: &mut fmt::Formatter<'_>) -> fmt::Result {
-        let [kind, slots, name] = &self.title;
-        let Sides { port, own, alike } = &self.nanos;
+        let Case { kind, slots, name, unit, .. } = self.case;
+        let [port, own, alike] = [0, 1, 2].map(|side| self.times(side).0[1]);
         write!(
             f,
-            "| {kind} | {slots:>6} | {name:<18} | {port:>7.2} / {:<6} | {alike:>7.2} | {own:>7.2} | {} | {} |{}",
-            self.unit,
-            self.alike,
-            self.own,
+            "| {kind:?} | {slots:>5} | {name:<19} | {unit:<6} | {port:>5.2} | {alike:>5.2} | {own:>5.2} | {} | {} |{}",
+            self.ratio(2),
+            self.ratio(1),
             if self.agree() { "" } else { " CHECKSUMS DIFFER" },
         )
     }
 }
 
-pub fn heading() {
-    println!(
-        "| index | slots | work | port, ns | crate, same slots, ns | crate, own slots, ns | port / same slots | port / own slots |"
-    );
-    println!("|---|---|---|---|---|---|---|---|");
+/// Prints the times and the sizes, and answers whether all checksums agree.
+pub fn print(cases: &[Case], lines: &str) -> bool {
+    println!("| index | slots | work | ns for a | port | crate, same slots | crate, own slots | port / same | port / own |");
+    println!("|---|---|---|---|---|---|---|---|---|");
+    let mut agree = true;
+    for case in cases {
+        let of_case = |line: &str| line.strip_prefix(&case.title())?.strip_prefix('\t').and_then(read);
+        let rounds: Vec<_> = lines.lines().filter_map(of_case).collect();
+        if rounds.is_empty() {
+            continue;
+        }
+        let row = Row { case, rounds };
+        agree &= row.agree();
+        println!("{row}");
+    }
+    println!();
+    memory();
+    agree
 }
 
-pub fn memory() {
+fn memory() {
     let [own, alike] = theirs::bytes();
     println!("| bytes | port | crate, same slots | crate, own slots |");
     println!("|---|---|---|---|");
