@@ -24,25 +24,24 @@ fn fill_to<G: Copy, V: Copy, S: NonZeroInxGenericStack<Slot = DirectSlot<G, V>>>
     }
 }
 
-/// A record comes into a slot that is vacant and within the capacity; free slots are added up to it.
+/// A record comes into a slot behind those that are there, and within the capacity; free slots are added up to it.
 // It comes as a generation and a value, here and below: a rule of this project for what is put into slots.
-#[tactic(auto, using(crate::proofs::Places::write_vacant))]
-pub fn place_record<G: Copy, V: Copy, S: NonZeroInxGenericStack<Slot = DirectSlot<G, V>>>(
+#[tactic(auto, using(crate::proofs::Places::write_behind))]
+pub fn append_record<G: Copy, V: Copy, S: NonZeroInxGenericStack<Slot = DirectSlot<G, V>>>(
     m: &mut S,
     n: usize,
     generation: G,
     value: V,
 )
-    requires low { 1 ≤ n }
+    requires behind { length (S.list m.old) + 1 ≤ n }
     requires high { n ≤ S.room (S.config m.old) }
-    requires vacant { is_free (at n (S.list m.old)) ≡ true }
     ensures slots { S.list m.new ≡ write n (Allocated generation value) (S.list m.old) }
     ensures counted { count (S.list m.new) ≡ count (S.list m.old) + 1 }
     ensures long { length (S.list m.new) ≡ max n (length (S.list m.old)) }
     ensures kept { S.config m.new ≡ S.config m.old }
 {
-    fill_to(m, n);
-    let _ = m.replace(n, DirectSlot::Allocated(generation, value));
+    fill_to(m, n - 1);
+    let _ = m.push_within_capacity(DirectSlot::Allocated(generation, value));
 }
 
 // A record comes into a slot that is there, and free.
@@ -84,7 +83,7 @@ pub fn insert_record<G: Copy, V: Copy, S: NonZeroInxGenericStack<Slot = DirectSl
             Ok(())
         }
         None => {
-            place_record(m, n, generation, value);
+            append_record(m, n, generation, value);
             Ok(())
         }
     }
