@@ -63,6 +63,7 @@ fn take_free<G: Copy, V: Copy, S: NonZeroInxGenericStack<Slot = DirectSlot<G, V>
 
 /// Brings in a record at a slot's number; free slots are added up to it. 1 beyond the capacity, 2 where the slot is
 /// taken.
+#[inline]
 pub fn insert_record<G: Copy, V: Copy, S: NonZeroInxGenericStack<Slot = DirectSlot<G, V>>>(
     m: &mut S,
     n: usize,
