@@ -133,12 +133,40 @@ fn on_records(kind: Kind, slots: usize, cases: &mut Vec<Case>) {
     add(Work::Insert, "insert, rising", &[], &every, slots, "call");
     add(Work::Insert, "insert, random", &[], &mixed, slots, "call");
     add(Work::Get, "get, hit", &every, &mixed, slots, "call");
-    add(Work::Get, "get, other season", &every, &others, slots, "call");
-    add(Work::Get, "get, free slot", &some, &gaps, gaps.len(), "call");
+    add(
+        Work::Get,
+        "get, other season",
+        &every,
+        &others,
+        slots,
+        "call",
+    );
+    add(
+        Work::Get,
+        "get, free slot",
+        &some,
+        &gaps,
+        gaps.len(),
+        "call",
+    );
     add(Work::Edit, "edit", &every, &mixed, slots, "call");
     add(Work::Remove, "remove", &every, &mixed, slots, "call");
-    add(Work::ListEdit, "list edit of 8", &every, &mixed, lists, "call");
-    add(Work::Recast, "recast, 50 %", &some, &led, some.len(), "record");
+    add(
+        Work::ListEdit,
+        "list edit of 8",
+        &every,
+        &mixed,
+        lists,
+        "call",
+    );
+    add(
+        Work::Recast,
+        "recast, 50 %",
+        &some,
+        &led,
+        some.len(),
+        "record",
+    );
 }
 
 /// The workloads that go over all slots, at three occupancies.

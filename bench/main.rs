@@ -82,7 +82,9 @@ fn main() {
         (Some("measure"), text) => {
             let text = text.unwrap_or_default();
             let cases = cases::all().into_iter();
-            cases.filter(|case| case.title().contains(&text)).for_each(|case| measure(&case));
+            cases
+                .filter(|case| case.title().contains(&text))
+                .for_each(|case| measure(&case));
         }
         (Some("table"), Some(file)) => {
             let lines = std::fs::read_to_string(file).expect("what was measured");

@@ -77,32 +77,49 @@ impl Row<'_> {
 
     /// Whether all sides gave one checksum in each round, and not that of a run that found no memory.
     fn agree(&self) -> bool {
-        let one = |r: &Sides<[u64; 2]>| r.port[1] != 0 && r.each().iter().all(|s| s[1] == r.port[1]);
+        let one =
+            |r: &Sides<[u64; 2]>| r.port[1] != 0 && r.each().iter().all(|s| s[1] == r.port[1]);
         self.rounds.iter().all(one)
     }
 }
 
 impl fmt::Display for Row<'_> {
     fn fmt(&self, f: &mut fmt::Formatter<'_>) -> fmt::Result {
-        let Case { kind, slots, name, unit, .. } = self.case;
+        let Case {
+            kind,
+            slots,
+            name,
+            unit,
+            ..
+        } = self.case;
         let [port, own, alike] = [0, 1, 2].map(|side| self.times(side).0[1]);
         write!(
             f,
             "| {kind:?} | {slots:>5} | {name:<19} | {unit:<6} | {port:>5.2} | {alike:>5.2} | {own:>5.2} | {} | {} |{}",
             self.ratio(2),
             self.ratio(1),
-            if self.agree() { "" } else { " CHECKSUMS DIFFER" },
+            if self.agree() {
+                ""
+            } else {
+                " CHECKSUMS DIFFER"
+            },
         )
     }
 }
 
 /// Prints the times and the sizes, and answers whether all checksums agree.
 pub fn print(cases: &[Case], lines: &str) -> bool {
-    println!("| index | slots | work | ns for a | port | crate, same slots | crate, own slots | port / same | port / own |");
+    println!(
+        "| index | slots | work | ns for a | port | crate, same slots | crate, own slots | port / same | port / own |"
+    );
     println!("|---|---|---|---|---|---|---|---|---|");
     let mut agree = true;
     for case in cases {
-        let of_case = |line: &str| line.strip_prefix(&case.title())?.strip_prefix('\t').and_then(read);
+        let of_case = |line: &str| {
+            line.strip_prefix(&case.title())?
+                .strip_prefix('\t')
+                .and_then(read)
+        };
         let rounds: Vec<_> = lines.lines().filter_map(of_case).collect();
         if rounds.is_empty() {
             continue;
@@ -122,6 +139,11 @@ fn memory() {
     println!("|---|---|---|---|");
     let names = ["a slot of values", "a slot of pointers", "an arena"];
     for (i, name) in names.iter().enumerate() {
-        println!("| {name} | {} | {} | {} |", ours::bytes()[i], alike[i], own[i]);
+        println!(
+            "| {name} | {} | {} | {} |",
+            ours::bytes()[i],
+            alike[i],
+            own[i]
+        );
     }
 }
