@@ -1,11 +1,12 @@
 -- The first and the last of the records that a search looks for, from what each slot is.
 use Rattle.std.proofs.Common.{◌≡◌, ℕ, zero, suc, ◌+◌, ◌-◌, ◌<◌, ◌≤◌, Bool, true, not, eqb, nat_le, filter, [], ◌∷◌, List, length, is_some, Some, None, Option, MatchOption, refl, arith}
+use Rattle.std.proofs.lemmas.Option.{slice_get_past}
 use Rattle.std.specs.List.{slice_get}
 use Rattle.std.specs.Option.{IfSome}
 use Rattle.kinds.specs.declared.slot.DirectSlot.TheVariants.{Free, Allocated}
 use Rattle.history.specs.Slots.{Slots, Held, or_free, at, count, held}
-use Rattle.slots.specs.Records.{record_in, named, first_of, last_of, first_from}
-use Rattle.slots.specs.Found.{held_in}
+use Rattle.slots.specs.Records.{record_in, named, first_of, last_of, first_from, last_to}
+use Rattle.slots.specs.Found.{held_in, Within}
 use Rattle.slots.specs.declared.find.Found.{Found}
 
 module _ {G V : Type 0} where
@@ -75,6 +76,41 @@ module _ {G V : Type 0} where
   all_to n k (Free ∷ s) l = all_to n (suc k) s (omega arith)
   all_to n k (Allocated g v ∷ s) l = grind (arith, all_to n (suc k) s)
 
+  -- a record in slot n is the first from n on, and where there is none, the first behind n is
+  pub here_first : (s : Slots G V) (n : ℕ) (h : Held G V) → Some h ≡ named n s → Some h ≡ first_from n (held 1 s)
+  here_first s n h e = first_named (nat_le n) s n h e (grind arith) (λ k l b w c. absurd (grind arith))
+
+  passed : (d k n : ℕ) (s : Slots G V) → None ≡ nth s d n → n ≡ k + d → filter (λ h. nat_le (suc n) h.slot) (held k s) ≡ filter (λ h. nat_le n h.slot) (held k s)
+  passed d k n [] e q = refl
+  passed zero k n (Free ∷ s) e q = grind (arith, all_from (suc n) (suc k) s, all_from n (suc k) s)
+  passed zero k n (Allocated g v ∷ s) e q = cc
+  passed (suc d) k n (Free ∷ s) e q = passed d (suc k) n s e (omega arith)
+  passed (suc d) k n (Allocated g v ∷ s) e q = grind (arith, passed d (suc k) n s e (omega arith))
+
+  pub past_first : (s : Slots G V) (n : ℕ) → None ≡ named n s → first_from (n + 1) (held 1 s) ≡ first_from n (held 1 s)
+  past_first s zero e = grind (arith, all_from 1 1 s, all_from 0 1 s)
+  past_first s (suc i) e = grind (arith, passed i 1 (suc i) s (grind arith) (omega arith))
+
+  -- the same up to n
+  pub here_last : (s : Slots G V) (n : ℕ) (h : Held G V) → Some h ≡ named n s → Some h ≡ last_to n (held 1 s)
+  here_last s n h e = last_named (λ k. nat_le k n) s n h e (grind arith) (λ k l b w c. absurd (grind arith))
+
+  none_to : (n k : ℕ) (s : Slots G V) → n < k → filter (λ h. nat_le h.slot n) (held k s) ≡ []
+  none_to n k [] l = refl
+  none_to n k (Free ∷ s) l = none_to n (suc k) s (omega arith)
+  none_to n k (Allocated g v ∷ s) l = grind (arith, none_to n (suc k) s)
+
+  before : (d k i : ℕ) (s : Slots G V) → None ≡ nth s d (suc i) → suc i ≡ k + d → filter (λ h. nat_le h.slot i) (held k s) ≡ filter (λ h. nat_le h.slot (suc i)) (held k s)
+  before d k i [] e q = refl
+  before zero k i (Free ∷ s) e q = grind (arith, none_to i (suc k) s, none_to (suc i) (suc k) s)
+  before zero k i (Allocated g v ∷ s) e q = cc
+  before (suc d) k i (Free ∷ s) e q = before d (suc k) i s e (omega arith)
+  before (suc d) k i (Allocated g v ∷ s) e q = grind (arith, before d (suc k) i s e (omega arith))
+
+  pub past_last : (s : Slots G V) (n : ℕ) → None ≡ named n s → last_to (n - 1) (held 1 s) ≡ last_to n (held 1 s)
+  past_last s zero e = refl
+  past_last s (suc i) e = grind (arith, before i 1 i s (grind arith) (omega arith))
+
   any_held : (k : ℕ) (s : Slots G V) → is_some (first_of (held k s)) ≡ not (eqb (count s) 0)
   any_held k [] = refl
   any_held k (Free ∷ s) = any_held (suc k) s
@@ -93,6 +129,15 @@ module _ {G V : Type 0} where
   pub last_counted : (s : Slots G V) (r : Option (Found G V)) → held_in r ≡ last_of (held 1 s) → is_some r ≡ not (eqb (count s) 0)
   last_counted s None e = grind (arith, any_held 1 s, last_is (held 1 s))
   last_counted s (Some f) e = grind (arith, any_held 1 s, last_is (held 1 s))
+
+  inside : (s : Slots G V) (n : ℕ) (h : Held G V) → Some h ≡ named n s → (1 ≤ n) × (n ≤ length s)
+  inside s zero h e = cc
+  inside s (suc i) h e = grind (arith, slice_get_past s i)
+
+  -- a record that stands in its slot stands in one of the slots
+  pub stands_within : (s : Slots G V) (r : Option (Found G V)) → IfSome r (λ f. held_in (Some f) ≡ named f.slot s) → Within r (length s)
+  stands_within s None e = tt
+  stands_within s (Some f) e = inside s f.slot _ e
 
   first_in : (n k : ℕ) (s : Slots G V) (h : Held G V) → Some h ≡ first_from n (held k s) → (k ≤ h.slot) × (or_free (slice_get s (h.slot - k)) ≡ Allocated h.gen h.value)
   first_in n k [] h e = cc

@@ -1,4 +1,4 @@
-ghost use Rattle.std.specs.Prelude.{◌≡◌, ◌-◌, ◌≤◌, not, length, is_some, ◌==◌};
+ghost use Rattle.std.specs.Prelude.{◌≡◌, ◌+◌, ◌-◌, ◌≤◌, not, length, is_some, ◌==◌};
 ghost use Rattle.history.specs.Slots.{count, held, trimmed};
 ghost use Rattle.slots.specs.Records.{first_of, last_of, first_from, last_to, ends_free};
 ghost use Rattle.slots.specs.Found.{held_in, Within};
@@ -8,9 +8,35 @@ use kinds::DirectSlot;
 use stack::NonZeroInxGenericStack;
 
 // The two searches are one chain each, which differ in `rev`; one function for both would take the range from its
-// caller, and could not say which record it finds.
+// caller, and could not say which record it finds. The slot itself is asked first: where most slots are taken, a walk
+// goes from one to the next and begins no search.
+
+// The record in the lowest slot behind `n`.
+fn record_above<G: Copy, V: Copy, S: NonZeroInxGenericStack<Slot = DirectSlot<G, V>>>(
+    m: &S,
+    n: usize,
+) -> Option<Found<G, V>>
+    ensures first { held_in result ≡ first_from (n + 1) (held 1 (S.list m.now)) }
+    ensures within { Within result (length (S.list m.now)) }
+{
+    (n..m.len()).find_map(|place| record_at(m, place + 1))
+}
+
+// The record in the highest slot before `n`.
+fn record_below<G: Copy, V: Copy, S: NonZeroInxGenericStack<Slot = DirectSlot<G, V>>>(
+    m: &S,
+    n: usize,
+) -> Option<Found<G, V>>
+    ensures last { held_in result ≡ last_to (n - 1) (held 1 (S.list m.now)) }
+    ensures within { Within result (length (S.list m.now)) }
+{
+    (0..n.saturating_sub(1).min(m.len()))
+        .rev()
+        .find_map(|place| record_at(m, place + 1))
+}
 
 /// The record in the lowest slot from `n` on; none where no record stands there.
+#[tactic(auto, using(crate::proofs::Searches::here_first, crate::proofs::Searches::past_first, crate::proofs::Searches::stands_within))]
 pub fn record_at_or_above<G: Copy, V: Copy, S: NonZeroInxGenericStack<Slot = DirectSlot<G, V>>>(
     m: &S,
     n: usize,
@@ -18,10 +44,11 @@ pub fn record_at_or_above<G: Copy, V: Copy, S: NonZeroInxGenericStack<Slot = Dir
     ensures first { held_in result ≡ first_from n (held 1 (S.list m.now)) }
     ensures within { Within result (length (S.list m.now)) }
 {
-    (n.max(1)..=m.len()).find_map(|k| record_at(m, k))
+    record_at(m, n).or_else(|| record_above(m, n))
 }
 
 /// The record in the highest slot up to `n`; none where no record stands there.
+#[tactic(auto, using(crate::proofs::Searches::here_last, crate::proofs::Searches::past_last, crate::proofs::Searches::stands_within))]
 pub fn record_at_or_below<G: Copy, V: Copy, S: NonZeroInxGenericStack<Slot = DirectSlot<G, V>>>(
     m: &S,
     n: usize,
@@ -29,7 +56,7 @@ pub fn record_at_or_below<G: Copy, V: Copy, S: NonZeroInxGenericStack<Slot = Dir
     ensures last { held_in result ≡ last_to n (held 1 (S.list m.now)) }
     ensures within { Within result (length (S.list m.now)) }
 {
-    (1..=n.min(m.len())).rev().find_map(|k| record_at(m, k))
+    record_at(m, n).or_else(|| record_below(m, n))
 }
 
 /// The record in the lowest slot; none where no record stands.

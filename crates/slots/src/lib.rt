@@ -10,4 +10,4 @@ pub mod write;
 
 pub use ends::{first_record, last_record, pop_free, record_at_or_above, record_at_or_below};
 pub use find::{Found, find_record, is_vacant, record_at};
-pub use write::{insert_record, overwrite, place_record};
+pub use write::{append_record, insert_record, overwrite};

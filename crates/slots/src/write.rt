@@ -1,11 +1,11 @@
-ghost use Rattle.std.specs.Prelude.{◌≡◌, ◌+◌, ◌≤◌, max, true, length};
-ghost use Rattle.kinds.specs.declared.slot.DirectSlot.TheVariants.{Allocated};
+ghost use Rattle.std.specs.Prelude.{◌≡◌, ◌+◌, ◌≤◌, max, true, length, Some};
+ghost use Rattle.kinds.specs.declared.slot.DirectSlot.TheVariants.{Free, Allocated};
+ghost use Rattle.kinds.specs.Places.{slot_at};
 ghost use Rattle.history.specs.Slots.{to, at, count, is_free, is_held, write};
 ghost use Rattle.outcome.specs.Outcome.{of_insertion};
 ghost use Rattle.slots.specs.Records.{taken, filled};
 ghost use Rattle.slots.specs.Inserted.{insert_answer, Inserted};
 
-use crate::find::is_vacant;
 use kinds::DirectSlot;
 use outcome::DirectInsertionError;
 use stack::NonZeroInxGenericStack;
@@ -24,29 +24,46 @@ fn fill_to<G: Copy, V: Copy, S: NonZeroInxGenericStack<Slot = DirectSlot<G, V>>>
     }
 }
 
-/// A record comes into a slot that is vacant and within the capacity; free slots are added up to it.
+/// A record comes into a slot behind those that are there, and within the capacity; free slots are added up to it.
 // It comes as a generation and a value, here and below: a rule of this project for what is put into slots.
-#[tactic(auto, using(crate::proofs::Places::write_vacant))]
-pub fn place_record<G: Copy, V: Copy, S: NonZeroInxGenericStack<Slot = DirectSlot<G, V>>>(
+#[tactic(auto, using(crate::proofs::Places::write_behind))]
+pub fn append_record<G: Copy, V: Copy, S: NonZeroInxGenericStack<Slot = DirectSlot<G, V>>>(
     m: &mut S,
     n: usize,
     generation: G,
     value: V,
 )
-    requires low { 1 ≤ n }
+    requires behind { length (S.list m.old) + 1 ≤ n }
     requires high { n ≤ S.room (S.config m.old) }
-    requires vacant { is_free (at n (S.list m.old)) ≡ true }
     ensures slots { S.list m.new ≡ write n (Allocated generation value) (S.list m.old) }
     ensures counted { count (S.list m.new) ≡ count (S.list m.old) + 1 }
     ensures long { length (S.list m.new) ≡ max n (length (S.list m.old)) }
     ensures kept { S.config m.new ≡ S.config m.old }
 {
-    fill_to(m, n);
+    fill_to(m, n - 1);
+    let _ = m.push_within_capacity(DirectSlot::Allocated(generation, value));
+}
+
+// A record comes into a slot that is there, and free.
+#[tactic(auto, using(crate::proofs::Places::write_free))]
+fn take_free<G: Copy, V: Copy, S: NonZeroInxGenericStack<Slot = DirectSlot<G, V>>>(
+    m: &mut S,
+    n: usize,
+    generation: G,
+    value: V,
+)
+    requires { slot_at (S.list m.old) n ≡ Some Free }
+    ensures slots { S.list m.new ≡ write n (Allocated generation value) (S.list m.old) }
+    ensures counted { count (S.list m.new) ≡ count (S.list m.old) + 1 }
+    ensures long { length (S.list m.new) ≡ max n (length (S.list m.old)) }
+    ensures kept { S.config m.new ≡ S.config m.old }
+{
     let _ = m.replace(n, DirectSlot::Allocated(generation, value));
 }
 
 /// Brings in a record at a slot's number; free slots are added up to it. 1 beyond the capacity, 2 where the slot is
 /// taken.
+#[inline]
 pub fn insert_record<G: Copy, V: Copy, S: NonZeroInxGenericStack<Slot = DirectSlot<G, V>>>(
     m: &mut S,
     n: usize,
@@ -60,11 +77,17 @@ pub fn insert_record<G: Copy, V: Copy, S: NonZeroInxGenericStack<Slot = DirectSl
     if n == 0 || n > m.capacity() {
         return Err(DirectInsertionError::NotWithinCapacity);
     }
-    if !is_vacant(m, n) {
-        return Err(DirectInsertionError::ExistingElementAtIndex);
+    match m.get(n) {
+        Some(DirectSlot::Allocated(..)) => Err(DirectInsertionError::ExistingElementAtIndex),
+        Some(DirectSlot::Free) => {
+            take_free(m, n, generation, value);
+            Ok(())
+        }
+        None => {
+            append_record(m, n, generation, value);
+            Ok(())
+        }
     }
-    place_record(m, n, generation, value);
-    Ok(())
 }
 
 /// A slot that holds a record gives way to another: the record with a new value, or a free slot.

@@ -47,11 +47,13 @@ pub fn push_slot<U: Copy>(
     ensures long { length slots.new ≡ length slots.old }
     ensures within { len.new ≤ room }
 {
-    if *len == room {
+    // read once, before a slot is written: what is written might be the length, for all that the compiler knows
+    let last = *len;
+    if last == room {
         return Err(NotWithinCapacityError);
     }
-    slots[*len] = u;
-    *len += 1;
+    slots[last] = u;
+    *len = last + 1;
     Ok(())
 }
 

@@ -1,0 +1,60 @@
+//! The library's side: the exports of `crates/bench_port`.
+
+use crate::{Case, Cited};
+
+// A slice crosses as a pointer and a length; the allocator that each export takes has no bytes.
+macro_rules! exports {
+    ($($name:ident)*) => {
+        unsafe extern "C" {
+            $(fn $name(
+                work: u32,
+                slots: usize,
+                standing: *const Cited,
+                standing_len: usize,
+                asked: *const Cited,
+                asked_len: usize,
+                nanos: *mut u64,
+                nanos_len: usize,
+            ) -> u64;)*
+        }
+    };
+}
+
+exports!(bench_short bench_sheet);
+
+unsafe extern "C" {
+    safe fn bench_slot_bytes() -> usize;
+    safe fn bench_pair_bytes() -> usize;
+    safe fn bench_arena_bytes() -> usize;
+}
+
+macro_rules! call {
+    ($name:ident, $case:ident, $nanos:ident) => {
+        // the slices outlive the call, which writes to the last alone
+        unsafe {
+            $name(
+                $case.work as u32,
+                $case.slots,
+                $case.standing.as_ptr(),
+                $case.standing.len(),
+                $case.asked.as_ptr(),
+                $case.asked.len(),
+                $nanos.as_mut_ptr(),
+                $nanos.len(),
+            )
+        }
+    };
+}
+
+pub fn short(case: &Case, nanos: &mut [u64]) -> u64 {
+    call!(bench_short, case, nanos)
+}
+
+pub fn sheet(case: &Case, nanos: &mut [u64]) -> u64 {
+    call!(bench_sheet, case, nanos)
+}
+
+/// Bytes of a slot of values, of a slot of pointers, and of an arena.
+pub fn bytes() -> [usize; 3] {
+    [bench_slot_bytes(), bench_pair_bytes(), bench_arena_bytes()]
+}

@@ -1,0 +1,47 @@
+use crate::inputs::{Inputs, Register, Season, contents, fill, free_slots, pointers};
+use crate::timing::now;
+use arena::advancer::{Advancer, PtrAdvancer};
+use kinds::PtrInx;
+use stack::FixedStack;
+use std::alloc::AllocError;
+
+// one step for each record, and one more, which finds none
+#[inline(never)]
+fn walk<I: PtrInx>(
+    arena: &Register<'_, I, u32>,
+    mut advancer: PtrAdvancer<Season<I>>,
+    sum: u64,
+) -> u64 {
+    let mut sum = sum;
+    for _ in 0..arena.len().saturating_add(1) {
+        if let Some(p) = advancer.advance(arena) {
+            let n = p.inx.try_into_usize().unwrap_or(0);
+            sum = sum.wrapping_add(n as u64 ^ u64::from(p.generation.season));
+        }
+    }
+    sum
+}
+
+/// Walks over all records, forward or backward.
+pub fn walks<I: PtrInx>(
+    inputs: Inputs<'_>,
+    rev: bool,
+    nanos: &mut [u64],
+) -> Result<u64, AllocError> {
+    let standing = pointers::<I>(inputs.alloc, inputs.standing)?;
+    let mut lent = free_slots(inputs.alloc, inputs.slots)?;
+    let mut arena = Register::<I, u32>::new(FixedStack::new(&mut lent));
+    fill(&mut arena, &standing);
+    let mut sum = 0;
+    for time in nanos.iter_mut() {
+        let advancer = if rev {
+            arena.rev_advancer()
+        } else {
+            arena.advancer()
+        };
+        let start = now();
+        sum = walk(&arena, advancer, sum);
+        *time = now().wrapping_sub(start);
+    }
+    Ok(contents(&arena, sum))
+}
