@@ -27,6 +27,14 @@ pub enum Work {
     Forward = 7,
     Backward = 8,
     Recast = 9,
+    Fill = 10,
+}
+
+impl Work {
+    /// What a round of it does before the calls, that takes time worth naming.
+    pub fn before(self) -> Option<Work> {
+        matches!(self, Work::Remove | Work::Compress).then_some(Work::Fill)
+    }
 }
 
 pub struct Case {

@@ -8,7 +8,9 @@ mod ours;
 mod table;
 mod theirs;
 
-use cases::{Case, Cited, Kind};
+use cases::{Case, Kind, Work};
+use std::hint::black_box;
+use std::time::Instant;
 use table::Sides;
 
 // Each link moves the code of both sides by this many bytes: loops run faster or slower by where they begin.
@@ -20,15 +22,18 @@ std::arch::global_asm!(".section .text.pad,\"axR\",@progbits", ".space 32");
 std::arch::global_asm!(".section .text.pad,\"axR\",@progbits", ".space 48");
 
 /// How often the sides take turns at a case.
-const ROUNDS: usize = 3;
+const TURNS: usize = 3;
 
-/// How long one side's turn should last, in nanoseconds, what is not timed included.
-const TURN: u64 = 6_000_000;
+/// How long the calls of one time should last, in nanoseconds.
+const LONG: u64 = 2_000_000;
 
-const MOST_SAMPLES: usize = 400;
+const MOST_ROUNDS: usize = 2_000;
 
-/// One side: runs a case's workload once for each number, and notes there how long it took.
-type Side = fn(&Case, &mut [u64]) -> u64;
+/// Of so many times the least counts: what disturbs a time makes it longer.
+const REPEATS: usize = 3;
+
+/// One side: carries out a workload so many times on a case's inputs, and answers a checksum.
+type Side = fn(&Case, Work, usize) -> u64;
 
 fn sides(kind: Kind) -> Sides<Side> {
     match kind {
@@ -45,32 +50,48 @@ fn sides(kind: Kind) -> Sides<Side> {
     }
 }
 
-fn median(numbers: &mut [u64]) -> u64 {
-    numbers.sort_unstable();
-    numbers[numbers.len() / 2]
-}
-
-/// How many samples fill a turn, by one trial of each side.
-fn samples(case: &Case, sides: &Sides<Side>) -> usize {
-    let start = std::time::Instant::now();
-    for side in sides.each() {
-        side(case, &mut [0; 3]);
+/// The least time of so many rounds with all that comes before and after them, and the checksum.
+fn least(side: Side, case: &Case, work: Work, rounds: usize) -> (u64, u64) {
+    let mut least = u64::MAX;
+    let mut sum = 0;
+    for _ in 0..REPEATS {
+        let start = Instant::now();
+        sum = black_box(side(black_box(case), work, rounds));
+        least = least.min(start.elapsed().as_nanos() as u64);
     }
-    let one = start.elapsed().as_nanos() as u64 / 9;
-    ((TURN / one.max(1)) as usize).clamp(5, MOST_SAMPLES)
+    (least, sum)
 }
 
-/// A line for each round: the case, and of each side the median and the checksum.
+/// A round's time, in picoseconds: what further rounds add to the first.
+fn of_a_round(side: Side, case: &Case, work: Work, rounds: usize) -> (u64, u64) {
+    let (one, _) = least(side, case, work, 1);
+    let (all, sum) = least(side, case, work, 1 + rounds);
+    (all.saturating_sub(one) * 1000 / rounds as u64, sum)
+}
+
+/// The time of a round's calls alone, and the checksum.
+fn of_the_calls(side: Side, case: &Case, rounds: usize) -> [u64; 2] {
+    let (time, sum) = of_a_round(side, case, case.work, rounds);
+    let before = case.work.before();
+    let before = before.map_or(0, |work| of_a_round(side, case, work, rounds).0);
+    [time.saturating_sub(before), sum]
+}
+
+/// How many rounds make a time long enough.
+fn rounds(case: &Case, sides: &Sides<Side>) -> usize {
+    let (round, _) = of_a_round(sides.alike, case, case.work, 8);
+    ((LONG * 1000 / round.max(1)) as usize).clamp(4, MOST_ROUNDS)
+}
+
+/// A line for each turn: the case, and of each side the time and the checksum.
 fn measure(case: &Case) {
     let sides = sides(case.kind);
-    // the first sample finds the caches cold, and is left out
-    let mut nanos = vec![0; samples(case, &sides) + 1];
-    for round in 0..ROUNDS {
+    let rounds = rounds(case, &sides);
+    for turn in 0..TURNS {
         let mut line = Sides::<[u64; 2]>::default();
-        for turn in 0..3 {
-            let place = (round + turn) % 3;
-            let sum = sides.each()[place](case, &mut nanos);
-            *line.each_mut()[place] = [median(&mut nanos[1..]), sum];
+        for k in 0..3 {
+            let place = (turn + k) % 3;
+            *line.each_mut()[place] = of_the_calls(*sides.each()[place], case, rounds);
         }
         println!("{}\t{}", case.title(), table::written(&line));
     }

@@ -1,6 +1,6 @@
 //! The library's side: the exports of `crates/bench_port`.
 
-use crate::{Case, Cited};
+use crate::cases::{Case, Cited, Work};
 
 // A slice crosses as a pointer and a length; the allocator that each export takes has no bytes.
 macro_rules! exports {
@@ -13,8 +13,7 @@ macro_rules! exports {
                 standing_len: usize,
                 asked: *const Cited,
                 asked_len: usize,
-                nanos: *mut u64,
-                nanos_len: usize,
+                rounds: usize,
             ) -> u64;)*
         }
     };
@@ -29,29 +28,28 @@ unsafe extern "C" {
 }
 
 macro_rules! call {
-    ($name:ident, $case:ident, $nanos:ident) => {
-        // the slices outlive the call, which writes to the last alone
+    ($name:ident, $case:ident, $work:ident, $rounds:ident) => {
+        // the slices outlive the call
         unsafe {
             $name(
-                $case.work as u32,
+                $work as u32,
                 $case.slots,
                 $case.standing.as_ptr(),
                 $case.standing.len(),
                 $case.asked.as_ptr(),
                 $case.asked.len(),
-                $nanos.as_mut_ptr(),
-                $nanos.len(),
+                $rounds,
             )
         }
     };
 }
 
-pub fn short(case: &Case, nanos: &mut [u64]) -> u64 {
-    call!(bench_short, case, nanos)
+pub fn short(case: &Case, work: Work, rounds: usize) -> u64 {
+    call!(bench_short, case, work, rounds)
 }
 
-pub fn sheet(case: &Case, nanos: &mut [u64]) -> u64 {
-    call!(bench_sheet, case, nanos)
+pub fn sheet(case: &Case, work: Work, rounds: usize) -> u64 {
+    call!(bench_sheet, case, work, rounds)
 }
 
 /// Bytes of a slot of values, of a slot of pointers, and of an arena.

@@ -23,7 +23,7 @@ impl<T> Sides<T> {
     }
 }
 
-/// A round as a line has it behind the case's title: of each side the time and the checksum.
+/// A turn as a line has it behind the case's title: of each side the time in picoseconds and the checksum.
 pub fn written(round: &Sides<[u64; 2]>) -> String {
     let numbers = round.each().map(|[time, sum]| format!("{time} {sum}"));
     numbers.join(" ")
@@ -66,7 +66,7 @@ impl fmt::Display for Spread {
 
 impl Row<'_> {
     fn times(&self, side: usize) -> Spread {
-        let one = |r: &Sides<[u64; 2]>| r.each()[side][0] as f64 / self.case.per as f64;
+        let one = |r: &Sides<[u64; 2]>| r.each()[side][0] as f64 / 1000.0 / self.case.per as f64;
         Spread::of(self.rounds.iter().map(one))
     }
 

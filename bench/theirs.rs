@@ -1,9 +1,7 @@
 //! The crate's side: the same workloads as in `crates/bench_port`, over the crate's fixed stack.
 
 use std::fmt;
-use std::hint::black_box;
 use std::num::{NonZeroU16, NonZeroU32, NonZeroUsize};
-use std::time::Instant;
 
 use triple_arena::traits::*;
 use triple_arena::utils::DirectSlot;
@@ -213,14 +211,6 @@ fn slots<P: Ptr, V>(arena: &Register<P, V>) -> u64 {
     arena.backing().len() as u64
 }
 
-/// Times one call, with what it answers hidden from the optimiser.
-fn timed<T>(nanos: &mut u64, call: impl FnOnce() -> T) -> T {
-    let start = Instant::now();
-    let answer = black_box(call());
-    *nanos = start.elapsed().as_nanos() as u64;
-    answer
-}
-
 #[inline(never)]
 fn insert_all<P: Ptr<Gen: Numbered>>(arena: &mut Register<P, u32>, asked: &[P], sum: u64) -> u64 {
     let mut sum = sum;
@@ -230,15 +220,24 @@ fn insert_all<P: Ptr<Gen: Numbered>>(arena: &mut Register<P, u32>, asked: &[P], 
     sum
 }
 
-fn insert<P: Ptr<Gen: Numbered>>(case: &Case, nanos: &mut [u64]) -> u64 {
+fn insert<P: Ptr<Gen: Numbered>>(case: &Case, rounds: usize) -> u64 {
     let asked = pointers::<P>(&case.asked);
     let mut arena = empty(case.slots);
     let mut sum = 0;
-    for time in nanos {
+    for _ in 0..rounds {
         arena.clear().allow();
-        sum = timed(time, || insert_all(&mut arena, &asked, sum));
+        sum = insert_all(&mut arena, &asked, sum);
     }
     contents(&arena, sum)
+}
+
+fn fills<P: Ptr<Gen: Numbered>>(case: &Case, rounds: usize) -> u64 {
+    let first = pointers::<P>(&case.standing);
+    let mut arena = empty(case.slots);
+    for _ in 0..rounds {
+        fill(&mut arena, &first);
+    }
+    contents(&arena, 0)
 }
 
 #[inline(never)]
@@ -267,15 +266,15 @@ fn edit_all<P: Ptr<Gen: Numbered>>(arena: &mut Register<P, u32>, asked: &[P], su
 /// Calls on a standing arena: questions and edits.
 fn standing<P: Ptr<Gen: Numbered>>(
     case: &Case,
-    nanos: &mut [u64],
+    rounds: usize,
     call: fn(&mut Register<P, u32>, &[P], u64) -> u64,
 ) -> u64 {
     let asked = pointers::<P>(&case.asked);
     let mut arena = empty(case.slots);
     fill(&mut arena, &pointers(&case.standing));
     let mut sum = 0;
-    for time in nanos {
-        sum = timed(time, || call(&mut arena, &asked, sum));
+    for _ in 0..rounds {
+        sum = call(&mut arena, &asked, sum);
     }
     contents(&arena, sum)
 }
@@ -292,14 +291,14 @@ fn remove_all<P: Ptr>(arena: &mut Register<P, u32>, asked: &[P], sum: u64) -> u6
     sum
 }
 
-fn remove<P: Ptr<Gen: Numbered>>(case: &Case, nanos: &mut [u64]) -> u64 {
+fn remove<P: Ptr<Gen: Numbered>>(case: &Case, rounds: usize) -> u64 {
     let first = pointers::<P>(&case.standing);
     let asked = pointers::<P>(&case.asked);
     let mut arena = empty(case.slots);
     let mut sum = 0;
-    for time in nanos {
+    for _ in 0..rounds {
         fill(&mut arena, &first);
-        sum = timed(time, || remove_all(&mut arena, &asked, sum));
+        sum = remove_all(&mut arena, &asked, sum);
     }
     contents(&arena, sum)
 }
@@ -323,13 +322,13 @@ fn edit_lists<P: Ptr>(arena: &mut Register<P, u32>, asked: &[P::Inx], sum: u64) 
     sum
 }
 
-fn list_edit<P: Ptr<Gen: Numbered>>(case: &Case, nanos: &mut [u64]) -> u64 {
+fn list_edit<P: Ptr<Gen: Numbered>>(case: &Case, rounds: usize) -> u64 {
     let asked: Vec<P::Inx> = pointers::<P>(&case.asked).iter().map(|p| p.inx()).collect();
     let mut arena = empty::<P, u32>(case.slots);
     fill(&mut arena, &pointers(&case.standing));
     let mut sum = 0;
-    for time in nanos {
-        sum = timed(time, || edit_lists(&mut arena, &asked, sum));
+    for _ in 0..rounds {
+        sum = edit_lists(&mut arena, &asked, sum);
     }
     contents(&arena, sum)
 }
@@ -341,12 +340,12 @@ fn compress_once<P: Ptr>(arena: &mut Register<P, u32>) {
         .allow();
 }
 
-fn compress<P: Ptr<Gen: Numbered>>(case: &Case, nanos: &mut [u64]) -> u64 {
+fn compress<P: Ptr<Gen: Numbered>>(case: &Case, rounds: usize) -> u64 {
     let first = pointers::<P>(&case.standing);
     let mut arena = empty(case.slots);
-    for time in nanos {
+    for _ in 0..rounds {
         fill(&mut arena, &first);
-        timed(time, || compress_once(&mut arena));
+        compress_once(&mut arena);
     }
     contents(&arena, 0)
 }
@@ -358,13 +357,13 @@ fn clone_once<P: Ptr>(arena: &mut Register<P, u32>, source: &Register<P, u32>) -
         .is_ok()
 }
 
-fn clone_from<P: Ptr<Gen: Numbered>>(case: &Case, nanos: &mut [u64]) -> u64 {
+fn clone_from<P: Ptr<Gen: Numbered>>(case: &Case, rounds: usize) -> u64 {
     let mut source = empty(case.slots);
     fill(&mut source, &pointers::<P>(&case.standing));
     let mut arena = empty(case.slots);
     let mut sum = 0_u64;
-    for time in nanos {
-        sum += u64::from(timed(time, || clone_once(&mut arena, &source)));
+    for _ in 0..rounds {
+        sum += u64::from(clone_once(&mut arena, &source));
     }
     contents(&arena, sum)
 }
@@ -385,15 +384,15 @@ fn walk<P: Ptr<Gen: Numbered>>(
     sum
 }
 
-fn walks<P: Ptr<Gen: Numbered>>(case: &Case, rev: bool, nanos: &mut [u64]) -> u64 {
+fn walks<P: Ptr<Gen: Numbered>>(case: &Case, rev: bool, rounds: usize) -> u64 {
     let mut arena = empty(case.slots);
     fill(&mut arena, &pointers::<P>(&case.standing));
     let start = if rev { case.slots } else { 1 };
     let start = P::Inx::try_from_usize(NonZeroUsize::new(start).unwrap()).unwrap();
     let mut sum = 0;
-    for time in nanos {
+    for _ in 0..rounds {
         let advancer = arena.advancer_inx(start, rev);
-        sum = timed(time, || walk(&arena, advancer, sum));
+        sum = walk(&arena, advancer, sum);
     }
     contents(&arena, sum)
 }
@@ -409,15 +408,15 @@ fn recast_once<P: Ptr + Recast<P>>(arena: &mut Register<P, P>, directory: &Regis
     arena.recast(directory).is_ok()
 }
 
-fn recast<P: Ptr<Gen: Numbered> + Recast<P>>(case: &Case, nanos: &mut [u64]) -> u64 {
+fn recast<P: Ptr<Gen: Numbered> + Recast<P>>(case: &Case, rounds: usize) -> u64 {
     let first = pointers::<P>(&case.standing);
     let mut directory = empty(case.slots);
     fill_directory(&mut directory, &first, &pointers(&case.asked));
     let mut arena = empty(case.slots);
     fill_directory(&mut arena, &first, &first);
     let mut sum = 0_u64;
-    for time in nanos {
-        sum += u64::from(timed(time, || recast_once(&mut arena, &directory)));
+    for _ in 0..rounds {
+        sum += u64::from(recast_once(&mut arena, &directory));
     }
     let mut sum = mixed(sum, slots(&arena));
     for (_, q) in arena.iter() {
@@ -427,18 +426,19 @@ fn recast<P: Ptr<Gen: Numbered> + Recast<P>>(case: &Case, nanos: &mut [u64]) -> 
     sum
 }
 
-pub fn run<P: Ptr<Gen: Numbered> + Recast<P>>(case: &Case, nanos: &mut [u64]) -> u64 {
-    match case.work {
-        Work::Insert => insert::<P>(case, nanos),
-        Work::Get => standing::<P>(case, nanos, |a, asked, sum| get_all(a, asked, sum)),
-        Work::Edit => standing::<P>(case, nanos, edit_all),
-        Work::Remove => remove::<P>(case, nanos),
-        Work::ListEdit => list_edit::<P>(case, nanos),
-        Work::Compress => compress::<P>(case, nanos),
-        Work::CloneFrom => clone_from::<P>(case, nanos),
-        Work::Forward => walks::<P>(case, false, nanos),
-        Work::Backward => walks::<P>(case, true, nanos),
-        Work::Recast => recast::<P>(case, nanos),
+pub fn run<P: Ptr<Gen: Numbered> + Recast<P>>(case: &Case, work: Work, rounds: usize) -> u64 {
+    match work {
+        Work::Insert => insert::<P>(case, rounds),
+        Work::Get => standing::<P>(case, rounds, |a, asked, sum| get_all(a, asked, sum)),
+        Work::Edit => standing::<P>(case, rounds, edit_all),
+        Work::Remove => remove::<P>(case, rounds),
+        Work::ListEdit => list_edit::<P>(case, rounds),
+        Work::Compress => compress::<P>(case, rounds),
+        Work::CloneFrom => clone_from::<P>(case, rounds),
+        Work::Forward => walks::<P>(case, false, rounds),
+        Work::Backward => walks::<P>(case, true, rounds),
+        Work::Recast => recast::<P>(case, rounds),
+        Work::Fill => fills::<P>(case, rounds),
     }
 }
 

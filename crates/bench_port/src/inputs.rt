@@ -1,4 +1,3 @@
-use crate::timing::mixed;
 use arena::DirectArena;
 use arena::advancer::Advancer;
 use kinds::{DirectSlot, PtrInx, PtrOf, SeasonGen};
@@ -13,13 +12,14 @@ pub struct Cited {
     pub season: u32,
 }
 
-/// What a workload is given: how many slots are lent, what stands at first, and what is asked for, in order.
+/// What a workload is given: how many slots are lent, what stands at first, what is asked for, in order, and how often.
 #[derive(Clone, Copy)]
 pub struct Inputs<'a> {
     pub alloc: Global,
     pub slots: usize,
     pub standing: &'a [Cited],
     pub asked: &'a [Cited],
+    pub rounds: usize,
 }
 
 pub type Season<I> = PtrOf<I, SeasonGen>;
@@ -53,6 +53,11 @@ pub fn fill<I: PtrInx>(arena: &mut Register<'_, I, u32>, pointers: &[Season<I>])
     for p in pointers {
         let _ = arena.direct_insert_within_capacity(*p, p.generation.season);
     }
+}
+
+/// A checksum that goes on by one more number, in which the order of the numbers counts.
+pub fn mixed(sum: u64, x: u64) -> u64 {
+    sum.wrapping_mul(6_364_136_223_846_793_005).wrapping_add(x)
 }
 
 /// A checksum of all records, with their places.

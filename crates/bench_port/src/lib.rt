@@ -1,6 +1,6 @@
-//! Workloads for a benchmark: each fills an arena, carries out one kind of call many times, and notes how long that took.
-//! It may use `arena` and what that uses, and the C library's clock; nothing in the repository uses it.
-//! A static library: the driver in bench/ links it, and compares it with the Rust crate.
+//! Workloads for a benchmark: each fills an arena, and carries out one kind of call many times.
+//! It may use `arena` and what that uses; nothing in the repository uses it, and nothing is promised of what it answers.
+//! A static library: the driver in bench/ links it, times it, and compares its checksums with those of the Rust crate.
 
 #![tactic(auto)]
 
@@ -9,5 +9,4 @@ pub mod inputs;
 pub mod many;
 pub mod recasts;
 pub mod single;
-pub mod timing;
 pub mod walks;

@@ -1,5 +1,4 @@
 use crate::inputs::{Inputs, Register, Season, contents, fill, free_slots, pointers};
-use crate::timing::now;
 use kinds::PtrInx;
 use mapper::AddCorrection;
 use stack::FixedStack;
@@ -25,17 +24,15 @@ fn edit_lists<I: PtrInx>(arena: &mut Register<'_, I, u32>, asked: &[I], sum: u64
 }
 
 /// List edits by index, so many records at a time.
-pub fn list_edit<I: PtrInx>(inputs: Inputs<'_>, nanos: &mut [u64]) -> Result<u64, AllocError> {
+pub fn list_edit<I: PtrInx>(inputs: Inputs<'_>) -> Result<u64, AllocError> {
     let standing = pointers::<I>(inputs.alloc, inputs.standing)?;
     let asked = indices(inputs.alloc, &pointers::<I>(inputs.alloc, inputs.asked)?)?;
     let mut lent = free_slots(inputs.alloc, inputs.slots)?;
     let mut arena = Register::<I, u32>::new(FixedStack::new(&mut lent));
     fill(&mut arena, &standing);
     let mut sum = 0;
-    for time in nanos.iter_mut() {
-        let start = now();
+    for _ in 0..inputs.rounds {
         sum = edit_lists(&mut arena, &asked, sum);
-        *time = now().wrapping_sub(start);
     }
     Ok(contents(&arena, sum))
 }
@@ -46,15 +43,13 @@ fn compress_once<I: PtrInx>(arena: &mut Register<'_, I, u32>) {
 }
 
 /// Compressions, each time of an arena that is filled anew.
-pub fn compress<I: PtrInx>(inputs: Inputs<'_>, nanos: &mut [u64]) -> Result<u64, AllocError> {
+pub fn compress<I: PtrInx>(inputs: Inputs<'_>) -> Result<u64, AllocError> {
     let standing = pointers::<I>(inputs.alloc, inputs.standing)?;
     let mut lent = free_slots(inputs.alloc, inputs.slots)?;
     let mut arena = Register::<I, u32>::new(FixedStack::new(&mut lent));
-    for time in nanos.iter_mut() {
+    for _ in 0..inputs.rounds {
         fill(&mut arena, &standing);
-        let start = now();
         compress_once(&mut arena);
-        *time = now().wrapping_sub(start);
     }
     Ok(contents(&arena, 0))
 }
@@ -65,7 +60,7 @@ fn clone_once<I: PtrInx>(arena: &mut Register<'_, I, u32>, source: &Register<'_,
 }
 
 /// Clones of one arena into another that has room for it.
-pub fn clone_from<I: PtrInx>(inputs: Inputs<'_>, nanos: &mut [u64]) -> Result<u64, AllocError> {
+pub fn clone_from<I: PtrInx>(inputs: Inputs<'_>) -> Result<u64, AllocError> {
     let standing = pointers::<I>(inputs.alloc, inputs.standing)?;
     let mut lent = free_slots(inputs.alloc, inputs.slots)?;
     let mut source = Register::<I, u32>::new(FixedStack::new(&mut lent));
@@ -73,10 +68,8 @@ pub fn clone_from<I: PtrInx>(inputs: Inputs<'_>, nanos: &mut [u64]) -> Result<u6
     let mut lent_too = free_slots(inputs.alloc, inputs.slots)?;
     let mut arena = Register::<I, u32>::new(FixedStack::new(&mut lent_too));
     let mut sum = 0_u64;
-    for time in nanos.iter_mut() {
-        let start = now();
+    for _ in 0..inputs.rounds {
         let accepted = clone_once(&mut arena, &source);
-        *time = now().wrapping_sub(start);
         sum = sum.wrapping_add(u64::from(accepted));
     }
     Ok(contents(&arena, sum))

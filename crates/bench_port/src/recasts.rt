@@ -1,5 +1,4 @@
-use crate::inputs::{Inputs, Register, Season, free_slots, pointers};
-use crate::timing::{mixed, now};
+use crate::inputs::{Inputs, Register, Season, free_slots, mixed, pointers};
 use arena::advancer::Advancer;
 use kinds::PtrInx;
 use stack::FixedStack;
@@ -36,7 +35,7 @@ fn contents<I: PtrInx>(arena: &Directory<'_, I>, sum: u64) -> u64 {
 }
 
 /// Recasts of an arena of pointers through a directory that leads each pointer to another that it holds.
-pub fn recast<I: PtrInx>(inputs: Inputs<'_>, nanos: &mut [u64]) -> Result<u64, AllocError> {
+pub fn recast<I: PtrInx>(inputs: Inputs<'_>) -> Result<u64, AllocError> {
     let standing = pointers::<I>(inputs.alloc, inputs.standing)?;
     let asked = pointers::<I>(inputs.alloc, inputs.asked)?;
     let mut lent = free_slots(inputs.alloc, inputs.slots)?;
@@ -46,10 +45,8 @@ pub fn recast<I: PtrInx>(inputs: Inputs<'_>, nanos: &mut [u64]) -> Result<u64, A
     let mut arena = Directory::<I>::new(FixedStack::new(&mut lent_too));
     fill_directory(&mut arena, &standing, &standing);
     let mut sum = 0_u64;
-    for time in nanos.iter_mut() {
-        let start = now();
+    for _ in 0..inputs.rounds {
         let accepted = recast_once(&mut arena, &directory);
-        *time = now().wrapping_sub(start);
         sum = sum.wrapping_add(u64::from(accepted));
     }
     Ok(contents(&arena, sum))

@@ -1,5 +1,4 @@
 use crate::inputs::{Inputs, Register, Season, contents, fill, free_slots, pointers};
-use crate::timing::now;
 use invalidation::InvalidationResult;
 use kinds::PtrInx;
 use stack::FixedStack;
@@ -21,18 +20,27 @@ fn insert_all<I: PtrInx>(arena: &mut Register<'_, I, u32>, asked: &[Season<I>], 
 }
 
 /// Insertions into an arena that is empty.
-pub fn insert<I: PtrInx>(inputs: Inputs<'_>, nanos: &mut [u64]) -> Result<u64, AllocError> {
+pub fn insert<I: PtrInx>(inputs: Inputs<'_>) -> Result<u64, AllocError> {
     let asked = pointers::<I>(inputs.alloc, inputs.asked)?;
     let mut lent = free_slots(inputs.alloc, inputs.slots)?;
     let mut arena = Register::<I, u32>::new(FixedStack::new(&mut lent));
     let mut sum = 0;
-    for time in nanos.iter_mut() {
+    for _ in 0..inputs.rounds {
         let _ = arena.clear();
-        let start = now();
         sum = insert_all(&mut arena, &asked, sum);
-        *time = now().wrapping_sub(start);
     }
     Ok(contents(&arena, sum))
+}
+
+/// Fillings alone, which the workloads on an arena that is filled anew begin with.
+pub fn fills<I: PtrInx>(inputs: Inputs<'_>) -> Result<u64, AllocError> {
+    let standing = pointers::<I>(inputs.alloc, inputs.standing)?;
+    let mut lent = free_slots(inputs.alloc, inputs.slots)?;
+    let mut arena = Register::<I, u32>::new(FixedStack::new(&mut lent));
+    for _ in 0..inputs.rounds {
+        fill(&mut arena, &standing);
+    }
+    Ok(contents(&arena, 0))
 }
 
 #[inline(never)]
@@ -45,17 +53,15 @@ fn get_all<I: PtrInx>(arena: &Register<'_, I, u32>, asked: &[Season<I>], sum: u6
 }
 
 /// Questions by pointer.
-pub fn get<I: PtrInx>(inputs: Inputs<'_>, nanos: &mut [u64]) -> Result<u64, AllocError> {
+pub fn get<I: PtrInx>(inputs: Inputs<'_>) -> Result<u64, AllocError> {
     let standing = pointers::<I>(inputs.alloc, inputs.standing)?;
     let asked = pointers::<I>(inputs.alloc, inputs.asked)?;
     let mut lent = free_slots(inputs.alloc, inputs.slots)?;
     let mut arena = Register::<I, u32>::new(FixedStack::new(&mut lent));
     fill(&mut arena, &standing);
     let mut sum = 0;
-    for time in nanos.iter_mut() {
-        let start = now();
+    for _ in 0..inputs.rounds {
         sum = get_all(&arena, &asked, sum);
-        *time = now().wrapping_sub(start);
     }
     Ok(contents(&arena, sum))
 }
@@ -71,17 +77,15 @@ fn edit_all<I: PtrInx>(arena: &mut Register<'_, I, u32>, asked: &[Season<I>], su
 }
 
 /// Edits by pointer.
-pub fn edit<I: PtrInx>(inputs: Inputs<'_>, nanos: &mut [u64]) -> Result<u64, AllocError> {
+pub fn edit<I: PtrInx>(inputs: Inputs<'_>) -> Result<u64, AllocError> {
     let standing = pointers::<I>(inputs.alloc, inputs.standing)?;
     let asked = pointers::<I>(inputs.alloc, inputs.asked)?;
     let mut lent = free_slots(inputs.alloc, inputs.slots)?;
     let mut arena = Register::<I, u32>::new(FixedStack::new(&mut lent));
     fill(&mut arena, &standing);
     let mut sum = 0;
-    for time in nanos.iter_mut() {
-        let start = now();
+    for _ in 0..inputs.rounds {
         sum = edit_all(&mut arena, &asked, sum);
-        *time = now().wrapping_sub(start);
     }
     Ok(contents(&arena, sum))
 }
@@ -99,17 +103,15 @@ fn remove_all<I: PtrInx>(arena: &mut Register<'_, I, u32>, asked: &[Season<I>], 
 }
 
 /// Removals by pointer, each time from an arena that is filled anew.
-pub fn remove<I: PtrInx>(inputs: Inputs<'_>, nanos: &mut [u64]) -> Result<u64, AllocError> {
+pub fn remove<I: PtrInx>(inputs: Inputs<'_>) -> Result<u64, AllocError> {
     let standing = pointers::<I>(inputs.alloc, inputs.standing)?;
     let asked = pointers::<I>(inputs.alloc, inputs.asked)?;
     let mut lent = free_slots(inputs.alloc, inputs.slots)?;
     let mut arena = Register::<I, u32>::new(FixedStack::new(&mut lent));
     let mut sum = 0;
-    for time in nanos.iter_mut() {
+    for _ in 0..inputs.rounds {
         fill(&mut arena, &standing);
-        let start = now();
         sum = remove_all(&mut arena, &asked, sum);
-        *time = now().wrapping_sub(start);
     }
     Ok(contents(&arena, sum))
 }

@@ -1,5 +1,4 @@
 use crate::inputs::{Inputs, Register, Season, contents, fill, free_slots, pointers};
-use crate::timing::now;
 use arena::advancer::{Advancer, PtrAdvancer};
 use kinds::PtrInx;
 use stack::FixedStack;
@@ -23,25 +22,19 @@ fn walk<I: PtrInx>(
 }
 
 /// Walks over all records, forward or backward.
-pub fn walks<I: PtrInx>(
-    inputs: Inputs<'_>,
-    rev: bool,
-    nanos: &mut [u64],
-) -> Result<u64, AllocError> {
+pub fn walks<I: PtrInx>(inputs: Inputs<'_>, rev: bool) -> Result<u64, AllocError> {
     let standing = pointers::<I>(inputs.alloc, inputs.standing)?;
     let mut lent = free_slots(inputs.alloc, inputs.slots)?;
     let mut arena = Register::<I, u32>::new(FixedStack::new(&mut lent));
     fill(&mut arena, &standing);
     let mut sum = 0;
-    for time in nanos.iter_mut() {
+    for _ in 0..inputs.rounds {
         let advancer = if rev {
             arena.rev_advancer()
         } else {
             arena.advancer()
         };
-        let start = now();
         sum = walk(&arena, advancer, sum);
-        *time = now().wrapping_sub(start);
     }
     Ok(contents(&arena, sum))
 }
