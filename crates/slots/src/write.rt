@@ -74,9 +74,7 @@ pub fn insert_record<G: Copy, V: Copy, S: NonZeroInxGenericStack<Slot = DirectSl
     ensures left { Inserted (of_insertion result) n (Allocated generation value) (S.list m.old) (S.list m.new) }
     ensures kept { S.config m.new ≡ S.config m.old }
 {
-    if n == 0 || n > m.capacity() {
-        return Err(DirectInsertionError::NotWithinCapacity);
-    }
+    // a slot that is there is within the capacity
     match m.get(n) {
         Some(DirectSlot::Allocated(..)) => Err(DirectInsertionError::ExistingElementAtIndex),
         Some(DirectSlot::Free) => {
@@ -84,6 +82,9 @@ pub fn insert_record<G: Copy, V: Copy, S: NonZeroInxGenericStack<Slot = DirectSl
             Ok(())
         }
         None => {
+            if n == 0 || n > m.capacity() {
+                return Err(DirectInsertionError::NotWithinCapacity);
+            }
             append_record(m, n, generation, value);
             Ok(())
         }
