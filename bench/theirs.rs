@@ -10,17 +10,24 @@ use triple_arena::{DirectArena, FixedHeapBacking, InvalidationResult, ptr_struct
 
 use crate::cases::{Case, Cited, Work};
 
+// The crate wants each part of a pointer to be recast as a whole.
+macro_rules! recast_whole {
+    ($($part:ident)*) => {
+        $(impl Recast<$part> for $part {
+            fn recast<R: Recaster<Item = $part>>(&mut self, recaster: &R) -> Result<(), R::Item> {
+                recaster.recast_item(self)
+            }
+        })*
+    };
+}
+
+recast_whole!(Sheet Short Season);
+
 /// A sheet of 200 lines and a line on it, as the library has them; the crate has no such kind.
 #[derive(Clone, Copy, Debug, Hash, PartialEq, Eq, PartialOrd, Ord)]
 pub struct Sheet {
     sheet: u16,
     line: u16,
-}
-
-impl Recast<Sheet> for Sheet {
-    fn recast<R: Recaster<Item = Sheet>>(&mut self, recaster: &R) -> Result<(), R::Item> {
-        recaster.recast_item(self)
-    }
 }
 
 impl PtrInx for Sheet {
@@ -58,12 +65,6 @@ impl PtrInx for Sheet {
 #[derive(Clone, Copy, Debug, Hash, PartialEq, Eq, PartialOrd, Ord)]
 pub struct Short(u16);
 
-impl Recast<Short> for Short {
-    fn recast<R: Recaster<Item = Short>>(&mut self, recaster: &R) -> Result<(), R::Item> {
-        recaster.recast_item(self)
-    }
-}
-
 impl PtrInx for Short {
     #[inline]
     fn try_from_usize(inx: NonZeroUsize) -> Option<Self> {
@@ -91,12 +92,6 @@ impl PtrInx for Short {
 /// A generation of all 32 bits, as the library's season; the crate's own leaves out 0.
 #[derive(Clone, Copy, Debug, Hash, PartialEq, Eq, PartialOrd, Ord)]
 pub struct Season(u32);
-
-impl Recast<Season> for Season {
-    fn recast<R: Recaster<Item = Season>>(&mut self, recaster: &R) -> Result<(), R::Item> {
-        recaster.recast_item(self)
-    }
-}
 
 impl PtrGen for Season {
     fn one() -> Self {

@@ -29,7 +29,10 @@ pub type Slot<V> = DirectSlot<SeasonGen, V>;
 pub type Register<'a, I, V> = DirectArena<Season<I>, V, FixedStack<'a, Slot<V>>>;
 
 /// The pointers that are cited, those left out whose number has no index.
-pub fn pointers<I: PtrInx>(alloc: Global, cited: &[Cited]) -> Result<Vec<Season<I>>, AllocError> {
+pub(crate) fn pointers<I: PtrInx>(
+    alloc: Global,
+    cited: &[Cited],
+) -> Result<Vec<Season<I>>, AllocError> {
     let mut pointers = vec![in alloc]?;
     for c in cited {
         if let Some(inx) = I::try_from_usize(c.slot as usize) {
@@ -43,12 +46,12 @@ pub fn pointers<I: PtrInx>(alloc: Global, cited: &[Cited]) -> Result<Vec<Season<
 }
 
 /// So many free slots, to be lent.
-pub fn free_slots<V: Copy>(alloc: Global, n: usize) -> Result<Vec<Slot<V>>, AllocError> {
+pub(crate) fn free_slots<V: Copy>(alloc: Global, n: usize) -> Result<Vec<Slot<V>>, AllocError> {
     vec![in alloc; DirectSlot::Free; n]
 }
 
 /// Inserts at each pointer its season as the value.
-pub fn fill<I: PtrInx>(arena: &mut Register<'_, I, u32>, pointers: &[Season<I>]) {
+pub(crate) fn fill<I: PtrInx>(arena: &mut Register<'_, I, u32>, pointers: &[Season<I>]) {
     let _ = arena.clear();
     for p in pointers {
         let _ = arena.direct_insert_within_capacity(*p, p.generation.season);
@@ -56,12 +59,12 @@ pub fn fill<I: PtrInx>(arena: &mut Register<'_, I, u32>, pointers: &[Season<I>])
 }
 
 /// A checksum that goes on by one more number, in which the order of the numbers counts.
-pub fn mixed(sum: u64, x: u64) -> u64 {
+pub(crate) fn mixed(sum: u64, x: u64) -> u64 {
     sum.wrapping_mul(6_364_136_223_846_793_005).wrapping_add(x)
 }
 
 /// A checksum of all records, with their places.
-pub fn contents<I: PtrInx>(arena: &Register<'_, I, u32>, sum: u64) -> u64 {
+pub(crate) fn contents<I: PtrInx>(arena: &Register<'_, I, u32>, sum: u64) -> u64 {
     let mut sum = mixed(sum, arena.slots() as u64);
     let mut advancer = arena.advancer();
     for _ in 0..arena.len() {

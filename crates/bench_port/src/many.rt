@@ -24,7 +24,7 @@ fn edit_lists<I: PtrInx>(arena: &mut Register<'_, I, u32>, asked: &[I], sum: u64
 }
 
 /// List edits by index, so many records at a time.
-pub fn list_edit<I: PtrInx>(inputs: Inputs<'_>) -> Result<u64, AllocError> {
+pub(crate) fn list_edit<I: PtrInx>(inputs: Inputs<'_>) -> Result<u64, AllocError> {
     let standing = pointers::<I>(inputs.alloc, inputs.standing)?;
     let asked = indices(inputs.alloc, &pointers::<I>(inputs.alloc, inputs.asked)?)?;
     let mut lent = free_slots(inputs.alloc, inputs.slots)?;
@@ -43,7 +43,7 @@ fn compress_once<I: PtrInx>(arena: &mut Register<'_, I, u32>) {
 }
 
 /// Compressions, each time of an arena that is filled anew.
-pub fn compress<I: PtrInx>(inputs: Inputs<'_>) -> Result<u64, AllocError> {
+pub(crate) fn compress<I: PtrInx>(inputs: Inputs<'_>) -> Result<u64, AllocError> {
     let standing = pointers::<I>(inputs.alloc, inputs.standing)?;
     let mut lent = free_slots(inputs.alloc, inputs.slots)?;
     let mut arena = Register::<I, u32>::new(FixedStack::new(&mut lent));
@@ -60,7 +60,7 @@ fn clone_once<I: PtrInx>(arena: &mut Register<'_, I, u32>, source: &Register<'_,
 }
 
 /// Clones of one arena into another that has room for it.
-pub fn clone_from<I: PtrInx>(inputs: Inputs<'_>) -> Result<u64, AllocError> {
+pub(crate) fn clone_from<I: PtrInx>(inputs: Inputs<'_>) -> Result<u64, AllocError> {
     let standing = pointers::<I>(inputs.alloc, inputs.standing)?;
     let mut lent = free_slots(inputs.alloc, inputs.slots)?;
     let mut source = Register::<I, u32>::new(FixedStack::new(&mut lent));

@@ -35,7 +35,7 @@ fn contents<I: PtrInx>(arena: &Directory<'_, I>, sum: u64) -> u64 {
 }
 
 /// Recasts of an arena of pointers through a directory that leads each pointer to another that it holds.
-pub fn recast<I: PtrInx>(inputs: Inputs<'_>) -> Result<u64, AllocError> {
+pub(crate) fn recast<I: PtrInx>(inputs: Inputs<'_>) -> Result<u64, AllocError> {
     let standing = pointers::<I>(inputs.alloc, inputs.standing)?;
     let asked = pointers::<I>(inputs.alloc, inputs.asked)?;
     let mut lent = free_slots(inputs.alloc, inputs.slots)?;

@@ -20,7 +20,7 @@ fn insert_all<I: PtrInx>(arena: &mut Register<'_, I, u32>, asked: &[Season<I>], 
 }
 
 /// Insertions into an arena that is empty.
-pub fn insert<I: PtrInx>(inputs: Inputs<'_>) -> Result<u64, AllocError> {
+pub(crate) fn insert<I: PtrInx>(inputs: Inputs<'_>) -> Result<u64, AllocError> {
     let asked = pointers::<I>(inputs.alloc, inputs.asked)?;
     let mut lent = free_slots(inputs.alloc, inputs.slots)?;
     let mut arena = Register::<I, u32>::new(FixedStack::new(&mut lent));
@@ -33,7 +33,7 @@ pub fn insert<I: PtrInx>(inputs: Inputs<'_>) -> Result<u64, AllocError> {
 }
 
 /// Fillings alone, which the workloads on an arena that is filled anew begin with.
-pub fn fills<I: PtrInx>(inputs: Inputs<'_>) -> Result<u64, AllocError> {
+pub(crate) fn fills<I: PtrInx>(inputs: Inputs<'_>) -> Result<u64, AllocError> {
     let standing = pointers::<I>(inputs.alloc, inputs.standing)?;
     let mut lent = free_slots(inputs.alloc, inputs.slots)?;
     let mut arena = Register::<I, u32>::new(FixedStack::new(&mut lent));
@@ -53,7 +53,7 @@ fn get_all<I: PtrInx>(arena: &Register<'_, I, u32>, asked: &[Season<I>], sum: u6
 }
 
 /// Questions by pointer.
-pub fn get<I: PtrInx>(inputs: Inputs<'_>) -> Result<u64, AllocError> {
+pub(crate) fn get<I: PtrInx>(inputs: Inputs<'_>) -> Result<u64, AllocError> {
     let standing = pointers::<I>(inputs.alloc, inputs.standing)?;
     let asked = pointers::<I>(inputs.alloc, inputs.asked)?;
     let mut lent = free_slots(inputs.alloc, inputs.slots)?;
@@ -77,7 +77,7 @@ fn edit_all<I: PtrInx>(arena: &mut Register<'_, I, u32>, asked: &[Season<I>], su
 }
 
 /// Edits by pointer.
-pub fn edit<I: PtrInx>(inputs: Inputs<'_>) -> Result<u64, AllocError> {
+pub(crate) fn edit<I: PtrInx>(inputs: Inputs<'_>) -> Result<u64, AllocError> {
     let standing = pointers::<I>(inputs.alloc, inputs.standing)?;
     let asked = pointers::<I>(inputs.alloc, inputs.asked)?;
     let mut lent = free_slots(inputs.alloc, inputs.slots)?;
@@ -103,7 +103,7 @@ fn remove_all<I: PtrInx>(arena: &mut Register<'_, I, u32>, asked: &[Season<I>], 
 }
 
 /// Removals by pointer, each time from an arena that is filled anew.
-pub fn remove<I: PtrInx>(inputs: Inputs<'_>) -> Result<u64, AllocError> {
+pub(crate) fn remove<I: PtrInx>(inputs: Inputs<'_>) -> Result<u64, AllocError> {
     let standing = pointers::<I>(inputs.alloc, inputs.standing)?;
     let asked = pointers::<I>(inputs.alloc, inputs.asked)?;
     let mut lent = free_slots(inputs.alloc, inputs.slots)?;

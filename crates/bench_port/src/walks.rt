@@ -22,7 +22,7 @@ fn walk<I: PtrInx>(
 }
 
 /// Walks over all records, forward or backward.
-pub fn walks<I: PtrInx>(inputs: Inputs<'_>, rev: bool) -> Result<u64, AllocError> {
+pub(crate) fn walks<I: PtrInx>(inputs: Inputs<'_>, rev: bool) -> Result<u64, AllocError> {
     let standing = pointers::<I>(inputs.alloc, inputs.standing)?;
     let mut lent = free_slots(inputs.alloc, inputs.slots)?;
     let mut arena = Register::<I, u32>::new(FixedStack::new(&mut lent));

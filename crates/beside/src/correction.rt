@@ -16,7 +16,7 @@ pub struct Correction {
 
 impl Correction {
     /// `5` adds 5 to each value; `*5` adds 5 to the first, 10 to the second, and so on.
-    pub fn read(text: &[u8]) -> Option<Correction> {
+    pub(crate) fn read(text: &[u8]) -> Option<Correction> {
         match text {
             [b'*', running @ ..] => {
                 let step = number(running)?;
@@ -30,7 +30,7 @@ impl Correction {
     }
 
     /// What the first value gets: 0 exactly if no value is altered.
-    pub fn amount(self) -> u32
+    pub(crate) fn amount(self) -> u32
         ensures { result ≡ self.sum }
     {
         self.sum
@@ -46,7 +46,7 @@ pub struct Witness<P: Kind> {
 }
 
 impl<P: Kind> Witness<P> {
-    pub fn new(heap: Global, correction: Correction) -> Self {
+    pub(crate) fn new(heap: Global, correction: Correction) -> Self {
         Witness {
             correction,
             pairs: Vec::new(heap),
@@ -55,7 +55,7 @@ impl<P: Kind> Witness<P> {
     }
 
     /// The old and the new pointer of each record, in the order shown; none where memory did not suffice for them.
-    pub fn pairs(&self) -> Option<&[(P, P)]> {
+    pub(crate) fn pairs(&self) -> Option<&[(P, P)]> {
         (!self.short_of_memory).then_some(self.pairs.as_slice())
     }
 }

@@ -21,7 +21,7 @@ pub struct Request {
 }
 
 impl Request {
-    pub fn read(over: &[u8], capacity: &[u8]) -> Option<Request> {
+    pub(crate) fn read(over: &[u8], capacity: &[u8]) -> Option<Request> {
         let over = match over {
             b"fixed" => Over::Fixed,
             b"limited" => Over::Limited,
@@ -35,7 +35,7 @@ impl Request {
 
     /// The slots that have to be lent. A limited stack grows over a slab that never runs out: no reallocation asks for
     /// more than M slots, and none doubles a capacity above M.
-    pub fn slots<P: Kind>(self) -> usize {
+    pub(crate) fn slots<P: Kind>(self) -> usize {
         match self.over {
             Over::Fixed => self.capacity,
             Over::Limited => self.capacity.max(P::Inx::max_index().saturating_mul(2)),

@@ -94,12 +94,12 @@ impl<I: PtrInx + Written, G: PtrGen + Written> Kind for PtrOf<I, G> {
 }
 
 /// A pointer of two fields.
-pub fn read_pointer<P: Kind>(inx: &[u8], generation: &[u8], least: Least) -> Option<P> {
+pub(crate) fn read_pointer<P: Kind>(inx: &[u8], generation: &[u8], least: Least) -> Option<P> {
     Some(P::from_raw(P::read_inx(inx, least)?, P::read_gen(generation, least)?))
 }
 
 /// A pointer as answers write it.
-pub fn write_pointer<P: Kind>(p: P, out: &mut String) -> Result<(), AllocError> {
+pub(crate) fn write_pointer<P: Kind>(p: P, out: &mut String) -> Result<(), AllocError> {
     P::write_inx(p.inx(), out)?;
     out.push_str("/")?;
     P::write_gen(p.generation(), out)

@@ -16,7 +16,7 @@ use stack::NonZeroInxGenericStack;
 use std::alloc::{AllocError, Global};
 
 /// The number of a refusal to make room.
-pub fn refusal(error: ArenaReallocationError) -> u8 {
+pub(crate) fn refusal(error: ArenaReallocationError) -> u8 {
     match error {
         ArenaReallocationError::Stack(ReallocationError::BeyondMaxCapacity) => 6,
         ArenaReallocationError::Stack(ReallocationError::AllocError)
@@ -25,7 +25,7 @@ pub fn refusal(error: ArenaReallocationError) -> u8 {
 }
 
 /// Records, slots, the stack's capacity and its maximum.
-pub fn write_tail<P: Kind, V: Copy, S: NonZeroInxGenericStack<Slot = DirectSlot<P::Gen, V>>>(
+pub(crate) fn write_tail<P: Kind, V: Copy, S: NonZeroInxGenericStack<Slot = DirectSlot<P::Gen, V>>>(
     arena: &DirectArena<P, V, S>,
     out: &mut String,
 ) -> Result<(), AllocError> {
@@ -176,7 +176,7 @@ fn edit_pointers<P: Kind, V: Value<P>, S: NonZeroInxGenericStack<Slot = DirectSl
 }
 
 /// The report of a compression is what the mapper was shown.
-pub fn write_report<P: Kind>(witness: &Witness<P>, out: &mut String) -> Result<(), Fault> {
+pub(crate) fn write_report<P: Kind>(witness: &Witness<P>, out: &mut String) -> Result<(), Fault> {
     for (old, new) in witness.pairs().ok_or(Fault::NoMemory)? {
         out.push_str(" ")?;
         write_pointer(*old, out)?;
@@ -309,7 +309,7 @@ fn change_all<P: Kind, V: Value<P>, S: NonZeroInxGenericStack<Slot = DirectSlot<
 }
 
 /// Makes a call that any arena has, and writes the answer to it.
-pub fn answer<P: Kind, V: Value<P>, S: NonZeroInxGenericStack<Slot = DirectSlot<P::Gen, V>>>(
+pub(crate) fn answer<P: Kind, V: Value<P>, S: NonZeroInxGenericStack<Slot = DirectSlot<P::Gen, V>>>(
     heap: Global,
     arena: &mut DirectArena<P, V, S>,
     call: &One<P>,

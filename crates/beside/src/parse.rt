@@ -185,7 +185,7 @@ fn start<P: Kind>(fields: &[&[u8]], least: Least) -> Option<Start<P>> {
 }
 
 /// The arena that a `make` or `makedir` line asks for.
-pub fn making<'t>(fields: &[&'t [u8]]) -> Option<Making<'t>> {
+pub(crate) fn making<'t>(fields: &[&'t [u8]]) -> Option<Making<'t>> {
     let [verb, name, over, capacity] = fields else {
         return None;
     };
@@ -202,7 +202,7 @@ pub fn making<'t>(fields: &[&'t [u8]]) -> Option<Making<'t>> {
 }
 
 /// The call that the fields of any other line ask for.
-pub fn parse<'t, P: Kind>(
+pub(crate) fn parse<'t, P: Kind>(
     heap: Global,
     fields: &[&'t [u8]],
     least: Least,

@@ -8,12 +8,12 @@ pub struct Pool<'a, U> {
 }
 
 impl<'a, U> Pool<'a, U> {
-    pub fn new(slots: &'a mut [U]) -> Self {
+    pub(crate) fn new(slots: &'a mut [U]) -> Self {
         Pool { slots }
     }
 
     /// So many slots, if there are as many left.
-    pub fn lend(&mut self, wanted: usize) -> Option<&'a mut [U]> {
+    pub(crate) fn lend(&mut self, wanted: usize) -> Option<&'a mut [U]> {
         if wanted > self.slots.len() {
             return None;
         }

@@ -232,7 +232,7 @@ fn answer_kinds(
 }
 
 /// One answer line for each line of a script.
-pub fn run(heap: Global, script: &[u8]) -> Result<String, AllocError> {
+pub(crate) fn run(heap: Global, script: &[u8]) -> Result<String, AllocError> {
     let mut out = String::new(heap);
     let lines: Vec<&[u8]> = Lines::new(script).collect(heap)?;
     let mut number: usize = 1;

@@ -51,7 +51,7 @@ impl<
     F: NonZeroInxGenericStack<Slot = DirectSlot<P::Gen, V>> + Drop,
     L: SetMaxCapacity<Slot = DirectSlot<P::Gen, V>> + Drop,
 > Shelf<'t, P, V, F, L> {
-    pub fn new(heap: Global) -> Self {
+    pub(crate) fn new(heap: Global) -> Self {
         Shelf {
             arenas: Vec::new(heap),
         }
@@ -61,13 +61,13 @@ impl<
         self.arenas.iter().position(|named| named.name == name)
     }
 
-    pub fn get(&mut self, name: &[u8]) -> Option<&mut Held<P, V, F, L>> {
+    pub(crate) fn get(&mut self, name: &[u8]) -> Option<&mut Held<P, V, F, L>> {
         let place = self.position(name)?;
         self.arenas.get_mut(place).map(|named| &mut named.held)
     }
 
     /// Two arenas, which are not the same.
-    pub fn pair(
+    pub(crate) fn pair(
         &mut self,
         first: &[u8],
         second: &[u8],
@@ -77,11 +77,11 @@ impl<
         Some((&mut a.held, &mut b.held))
     }
 
-    pub fn remove(&mut self, name: &[u8]) {
+    pub(crate) fn remove(&mut self, name: &[u8]) {
         self.arenas.retain(|named| named.name != name);
     }
 
-    pub fn put(&mut self, name: &'t [u8], held: Held<P, V, F, L>) -> Result<(), AllocError> {
+    pub(crate) fn put(&mut self, name: &'t [u8], held: Held<P, V, F, L>) -> Result<(), AllocError> {
         self.arenas
             .push(Named { name, held })
             .map_err(AllocError::from)

@@ -23,7 +23,7 @@ fn write_verdict(
     }
 }
 
-pub fn clone_from<
+pub(crate) fn clone_from<
     P: Kind,
     V: Value<P>,
     S: NonZeroInxGenericStack<Slot = DirectSlot<P::Gen, V>>,
@@ -43,7 +43,7 @@ pub fn clone_from<
     Ok(write_tail(arena, out)?)
 }
 
-pub fn transfer_from<
+pub(crate) fn transfer_from<
     P: Kind,
     V: Value<P>,
     S: NonZeroInxGenericStack<Slot = DirectSlot<P::Gen, V>>,
@@ -67,7 +67,7 @@ pub fn transfer_from<
 }
 
 /// The report goes into the directory; a refusal shows the directory's number and what it carries.
-pub fn compress_to<
+pub(crate) fn compress_to<
     P: Kind,
     V: Value<P>,
     S: NonZeroInxGenericStack<Slot = DirectSlot<P::Gen, V>>,
@@ -92,7 +92,7 @@ pub fn compress_to<
 }
 
 /// The new pointer, or 9 and the pointer asked for.
-pub fn recast_one<P: Kind, D: NonZeroInxGenericStack<Slot = DirectSlot<P::Gen, P>>>(
+pub(crate) fn recast_one<P: Kind, D: NonZeroInxGenericStack<Slot = DirectSlot<P::Gen, P>>>(
     directory: &DirectArena<P, P, D>,
     p: P,
     out: &mut String,
@@ -112,7 +112,7 @@ where
     }
 }
 
-pub fn recast_by<
+pub(crate) fn recast_by<
     P: Kind + Value<P>,
     S: NonZeroInxGenericStack<Slot = DirectSlot<P::Gen, P>>,
     D: NonZeroInxGenericStack<Slot = DirectSlot<P::Gen, P>>,
@@ -131,7 +131,7 @@ pub fn recast_by<
     write_tail(arena, out)
 }
 
-pub fn join_with<
+pub(crate) fn join_with<
     P: Kind,
     S: NonZeroInxGenericStack<Slot = DirectSlot<P::Gen, P>>,
     D: NonZeroInxGenericStack<Slot = DirectSlot<P::Gen, P>>,

@@ -19,7 +19,7 @@ impl From<AllocError> for Fault {
 }
 
 /// The fields of a line, with one space between.
-pub fn fields(heap: Global, line: &[u8]) -> Result<Vec<&[u8]>, AllocError> {
+pub(crate) fn fields(heap: Global, line: &[u8]) -> Result<Vec<&[u8]>, AllocError> {
     let mut fields = Vec::new(heap);
     for field in line.split(|b| *b == b' ') {
         fields.push(field)?;
@@ -28,7 +28,7 @@ pub fn fields(heap: Global, line: &[u8]) -> Result<Vec<&[u8]>, AllocError> {
 }
 
 /// A decimal without sign and leading zeros.
-pub fn count(text: &[u8]) -> Option<usize> {
+pub(crate) fn count(text: &[u8]) -> Option<usize> {
     match text {
         [b'0'] | [b'1'..=b'9', ..] => from_utf8(text).ok()?.parse().ok(),
         _ => None,
@@ -36,6 +36,6 @@ pub fn count(text: &[u8]) -> Option<usize> {
 }
 
 /// The same of 32 bits.
-pub fn number(text: &[u8]) -> Option<u32> {
+pub(crate) fn number(text: &[u8]) -> Option<u32> {
     u32::try_from(count(text)?).ok()
 }

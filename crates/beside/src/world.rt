@@ -165,7 +165,7 @@ impl<
     M: SetMaxCapacity<Slot = DirectSlot<P::Gen, P>> + Drop,
 > World<'t, P, F, L, G, M> {
     /// No arenas yet.
-    pub fn new(heap: Global) -> Self {
+    pub(crate) fn new(heap: Global) -> Self {
         World {
             heap,
             numbers: Shelf::new(heap),
@@ -174,7 +174,7 @@ impl<
         }
     }
 
-    pub fn remove(&mut self, name: &[u8]) {
+    pub(crate) fn remove(&mut self, name: &[u8]) {
         self.numbers.remove(name);
         self.pointers.remove(name);
     }
@@ -261,7 +261,7 @@ impl<
     }
 
     /// Makes a call, and writes the answer to it.
-    pub fn answer(&mut self, call: Call<'t, P>, out: &mut String) -> Result<(), Fault> {
+    pub(crate) fn answer(&mut self, call: Call<'t, P>, out: &mut String) -> Result<(), Fault> {
         match call {
             Call::OnOne { name, call } => self.one(name, &call, out),
             Call::OnTwo {
