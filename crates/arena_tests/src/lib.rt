@@ -56,6 +56,20 @@ mod tests {
     }
 
     #[test]
+    fn the_lender_finds_the_slots_in_its_own(rt: HostRuntime) {
+        let mut lent = [DirectSlot::<SeasonGen, u32>::Free; 2];
+        {
+            let mut a = DirectArena::<PtrOf<ShortInx, SeasonGen>, u32, _>::new(FixedStack::new(
+                &mut lent,
+            ));
+            assert!(rt; a.direct_insert_within_capacity(of(2, 5), 70) == Ok(()));
+            let _ = a.into_stack().into_slots();
+        }
+        assert!(rt; lent[0] == DirectSlot::Free);
+        assert!(rt; lent[1] == DirectSlot::Allocated(SeasonGen { season: 5 }, 70));
+    }
+
+    #[test]
     fn a_full_list_of_slots(rt: HostRuntime) {
         let mut lent = [DirectSlot::<SeasonGen, u32>::Free; 2];
         let mut a = DirectArena::<PtrOf<ShortInx, SeasonGen>, u32, _>::new(FixedStack::new(

@@ -8,18 +8,12 @@ use kinds::DirectSlot;
 use passages::{PointerSlot, Slot, open_directory};
 use std::io;
 use std::io::{Read, Write};
-use trails::{ROOM, open_directories, open_register, run};
-
-// One byte more than a season may have: so a longer one is seen, and not read whole.
-const MOST: u64 = 65_537;
-
-// How many compressions a season may have.
-const COMPRESSIONS: usize = 64;
+use trails::{COMPRESSIONS, MOST_READ, ROOM, open_directories, open_register, run};
 
 fn main(rt: HostRuntime) -> io::Result<()> {
     let heap = rt.alloc();
     let mut input = Vec::new(heap);
-    rt.stdin().take(MOST).read_to_end(&mut input)?;
+    rt.stdin().take(MOST_READ).read_to_end(&mut input)?;
     let mut slots: [Slot; ROOM] = [DirectSlot::Free; ROOM];
     let mut register = open_register(&mut slots);
     let free: PointerSlot = DirectSlot::Free;

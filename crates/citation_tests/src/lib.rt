@@ -10,7 +10,7 @@ mod tests {
     use passages::{PointerSlot, Slot, open_directory};
     use std::alloc::{AllocError, Global};
     use std::test::Fail;
-    use trails::{ROOM, open_directories, open_register, run};
+    use trails::{COMPRESSIONS, MOST_READ, ROOM, open_directories, open_register, run};
 
     const NAMES: &[u8] = b"call slot generation value\n";
 
@@ -35,7 +35,7 @@ mod tests {
     fn gives(heap: Global, lines: &[u8], expected: &[u8]) -> Result<bool, AllocError> {
         let mut input = NAMES.to_vec(heap)?;
         input.extend_from_slice(lines)?;
-        let out = written(heap, input.as_slice(), 64 * ROOM, ROOM)?;
+        let out = written(heap, input.as_slice(), COMPRESSIONS * ROOM, ROOM)?;
         Ok(out.as_bytes() == expected)
     }
 
@@ -77,6 +77,7 @@ mod tests {
         let beyond = written(heap, padded(heap, 65_537)?.as_slice(), ROOM, ROOM)?;
         assert!(rt; fits.as_bytes() != b"refused, 11\n".as_slice());
         assert!(rt; beyond.as_bytes() == b"refused, 11\n".as_slice());
+        assert!(rt; MOST_READ == 65_537);
         Ok(())
     }
 
@@ -136,7 +137,7 @@ mod tests {
     fn the_last_of_64_directories(rt: HostRuntime) -> Result<(), Fail> {
         let heap = rt.alloc();
         let input = compressed(heap, 65)?;
-        let out = written(heap, input.as_slice(), 64 * ROOM, ROOM)?;
+        let out = written(heap, input.as_slice(), COMPRESSIONS * ROOM, ROOM)?;
         let last = b"compression 64: 1 7 -> 1 7\ntoday: 1 7 value 640\n".as_slice();
         assert!(rt;
             out.as_bytes().starts_with(

@@ -9,9 +9,8 @@ use Rattle.outcome.specs.Outcome.{done, refused}
 use Rattle.stack.specs.Slots.{counted}
 use Rattle.history.specs.Slots.{Slots, Ptr, to, trimmed}
 use Rattle.history.specs.Mapped.{Pair, kept, records, report}
-use Rattle.history.specs.Calls.{insert, remove, compress, index, effect, Leads}
+use Rattle.history.specs.Calls.{insert, remove, compress, index, effect}
 use Rattle.history.specs.Directories.{Holds, joined_with, filled_slots}
-use Rattle.history.specs.Spans.{Span, all_ended, Successive, AllApart, Gives}
 use Rattle.slots.specs.Inserted.{insert_answer}
 use Rattle.bulk.specs.Edits.{edits_answer}
 use Rattle.arena.specs.Answers.{cited}
@@ -41,17 +40,6 @@ pair g m n = record { old = to m g; new = to n g }
 abbrev pub eighth : SeasonGen → ℕ → Slots SeasonGen ℕ
 eighth g v = effect (insert (to 8 g) v) []
 
--- a span with one insertion, at slot 2, and the directory of the compression that ended it
-abbrev pub span : SeasonGen → ℕ → Span SeasonGen ℕ Pointer
-span g v = record { calls = record { call = insert (to 2 g) v; accepted = true } ∷ []; mapping = kept; directory = filled_slots point (pair g 2 1 ∷ []) }
-
--- The premises of what joined reports say hold together: of a new arena with that span.
-pub record Followed (g : SeasonGen) (v : ℕ) : Type 0 where
-  pub leads : Leads season_alike (all_ended (span g v ∷ []) []) (Allocated g v ∷ [])
-  pub successive : Successive view (span g v ∷ []) []
-  pub apart : AllApart (span g v ∷ []) []
-  pub given : Gives [] (span g v).calls 0 (view (pointer 2 g))
-
 pub record Worked : Type 0 where
   -- an insertion at 0 is refused with 1, at 8 it gives eight slots, and at 9 it is refused with 1
   pub at_0 : (g : SeasonGen) (s : Slots SeasonGen ℕ) → insert_answer capacity (view (pointer 0 g)) s ≡ refused 1
@@ -71,7 +59,11 @@ pub record Worked : Type 0 where
       × (report (records (Allocated g u ∷ Allocated h v ∷ [])) ≡ pair g 1 1 ∷ pair h 2 2 ∷ [])
   -- a trim pops free slots from the end only
   pub popped : (g : SeasonGen) (v : ℕ) → length (Allocated g v ∷ Free ∷ Free ∷ []) - length (trimmed 5 (Allocated g v ∷ Free ∷ Free ∷ [])) ≡ 2
-  -- two reports joined: what the second does not hold is not there any more
-  pub joined : (g h : SeasonGen) → Holds view
+  -- two reports joined: what the second does not hold, or holds under another season only, is not there any more
+  pub joined : (g h : SeasonGen) →
+      Holds view
       (joined_with season_alike view (filled_slots point (pair g 2 1 ∷ pair h 4 2 ∷ [])) (filled_slots point (pair h 2 1 ∷ [])))
       (pair h 4 1 ∷ [])
+  pub unfit : Holds view
+      (joined_with season_alike view (filled_slots point (pair (record { season = 1 }) 4 2 ∷ [])) (filled_slots point (pair (record { season = 2 }) 2 1 ∷ [])))
+      []

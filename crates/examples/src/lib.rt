@@ -6,14 +6,17 @@
 
 ghost use Rattle.std.specs.Prelude.{◌≡◌, ℕ};
 ghost use Rattle.kinds.specs.declared.generation.SeasonGen.{SeasonGen};
-ghost use Rattle.examples.specs.Worked.{Followed, Worked};
+ghost use Rattle.kinds.specs.Kinds.{season_alike};
+ghost use Rattle.history.specs.Followed.{Followed, Said};
+ghost use Rattle.examples.specs.Worked.{Worked};
 
 /// How many examples there are; the contract has them all, as one statement of the definitions that contracts cite. It
-/// also has a history of which all premises of the promise on joined reports hold.
+/// also has a history of which all premises of the promise on joined reports hold, and what the promise says of it.
 pub fn worked_examples() -> usize
     ensures number { result ≡ 10 }
     ensures worked { Worked }
-    ensures followed { (g : SeasonGen) (v : ℕ) → Followed g v }
+    ensures followed { (g h k : SeasonGen) (u v w : ℕ) → Followed g h k u v w season_alike }
+    ensures said { (g h k : SeasonGen) (u v w : ℕ) → Said g h k u v w season_alike }
 {
     10
 }

@@ -2,6 +2,10 @@ pub mod Agree
 pub mod Stems
 pub mod Moves
 pub mod Runs
+pub mod Once
+pub mod Allowed
+pub mod Lawful
 pub mod Joins
 pub mod Spans
 pub mod Fills
+pub mod Followed

@@ -30,7 +30,7 @@ module _ {G V : Type 0} where
   low n k (h ∷ hs) p q r (inl e) = grind arith
   low n k (h ∷ hs) p q r (inr i) = let b = low h.slot (suc k) hs p q (grind arith) i in (grind (arith, b.0), omega (arith, b.1))
 
-  in_order : (n k : ℕ) (hs : List (Held G V)) (p q p' q' : Ptr G) → rising n hs ≡ true →
+  pub in_order : (n k : ℕ) (hs : List (Held G V)) (p q p' q' : Ptr G) → rising n hs ≡ true →
       In (record { old = p; new = q }) (pairs (moving k hs)) → In (record { old = p'; new = q' }) (pairs (moving k hs)) →
       Kept p q p' q'
   in_order n k [] p q p' q' r i j = absurd i

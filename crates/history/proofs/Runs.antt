@@ -1,14 +1,14 @@
 -- The laws over every history.
-use Rattle.std.proofs.Common.{◌≡◌, ℕ, zero, suc, ◌+◌, ◌<◌, ◌≤◌, Bool, true, false, ◌⊎◌, List, [], ◌∷◌, ◌++◌, length, sym, refl, ap, ◌∙◌, inl, inr, arith}
+use Rattle.std.proofs.Common.{◌≡◌, ℕ, zero, suc, ◌+◌, ◌<◌, ◌≤◌, Bool, true, false, ◌⊎◌, List, [], ◌∷◌, ◌++◌, length, cond, sym, refl, ap, ◌∙◌, inl, inr, arith}
 use Rattle.std.proofs.lemmas.Option.{slice_get_within}
 use Rattle.std.specs.List.{slice_get}
 use Rattle.kinds.specs.declared.slot.DirectSlot.TheVariants.{Allocated}
 use Rattle.history.specs.Slots.{Slots, Held, ptr, or_free, at, count}
 use Rattle.history.specs.Calls.{Call, Entry, Leads, still, next}
 use Rattle.history.specs.Roll.{Line, Roll, standing, rolled, roll}
-use Rattle.history.specs.Laws.{In, Stands, Arrived, Carries, Ordered, Brings, Follows, Lawful}
+use Rattle.history.specs.Laws.{In, Stands, Arrived, Carries, Ordered, Brings, Follows, brought_in, arrivals}
 use Rattle.history.proofs.Agree.{Agrees, none, free, full, line, records_of, step_agrees}
-use Rattle.history.proofs.Stems.{New, Stem, stems, grows}
+use Rattle.history.proofs.Stems.{New, Stem, stems, grows, map_in}
 use Rattle.history.proofs.Moves.{lines_rise, passes_sent, follows_order}
 
 module _ {G V : Type 0} where
@@ -125,7 +125,15 @@ module _ {G V : Type 0} (alike : G → G → Bool) where
       at_slot zero g v e = cc
       at_slot (suc n) g v e = only_at d.agrees n (suc n) g v (omega arith) (grind arith)
 
-  arrived : (h : List (Entry G V)) (s : Slots G V) → Leads alike h s → (m : Line G V) → In m (roll h).lines → Arrived h m
+  told_arrivals : (c : Call G V) (b : Bool) (r : Roll G V) → (rolled (record { call = c; accepted = b }) r).next ≡ r.next + cond b (brought_in c) 0
+  told_arrivals c b r = grind arith
+
+  -- the number of the next arrival is how many there were
+  next_arrivals : (h : List (Entry G V)) → (roll h).next ≡ arrivals h
+  next_arrivals [] = refl
+  next_arrivals (e ∷ h) = told_arrivals e.call e.accepted (roll h) ∙ ap (λ n. n + cond e.accepted (brought_in e.call) 0) (next_arrivals h)
+
+  pub arrived : (h : List (Entry G V)) (s : Slots G V) → Leads alike h s → (m : Line G V) → In m (roll h).lines → Arrived h m
   arrived [] s still m i = absurd i
   arrived (e ∷ h) t (next {t = s} l x) m i = go (arrived h s l) (stems e (roll h) m i)
     where
@@ -138,7 +146,7 @@ module _ {G V : Type 0} (alike : G → G → Bool) where
         since = [];
         whole = ap (λ b. record { call = e.call; accepted = b } ∷ h) y.went;
         brought = y.brought;
-        number = y.number;
+        number = y.number ∙ ap (λ n. n + y.place) (next_arrivals h);
         carried = refl;
         reported = refl;
         gen = refl;
@@ -155,7 +163,7 @@ module _ {G V : Type 0} (alike : G → G → Bool) where
             whole = cc a.whole;
             brought = a.brought;
             number = sym y.number ∙ a.number;
-            carried = (y.line.stand, a.carried, rw (← a.whole) y.passes);
+            carried = (y.line.stand, a.carried, rw (← a.whole) (map_in (λ (z : Line G V). z.stand) y.line (roll h).lines y.was), rw (← a.whole) y.passes);
             reported = (ptr y.line.stand, a.reported, rw (← a.whole) w.0);
             gen = w.1 ∙ a.gen;
           }
@@ -172,7 +180,7 @@ module _ {G V : Type 0} (alike : G → G → Bool) where
       go (inl y) = absurd (omega (arith, (sound h s k).below l i, grown later h, y.number))
       go (inr y) = y
 
-  kept : (later h : List (Entry G V)) (s : Slots G V) → Leads alike h s → (t : Slots G V) → Leads alike (later ++ h) t → Carries later h
+  pub kept : (later h : List (Entry G V)) (s : Slots G V) → Leads alike h s → (t : Slots G V) → Leads alike (later ++ h) t → Carries later h
   kept [] h s k t a l m i j e =
       let q = (sound h s k).one l m i j e in
       record { carried = cc; reported = cc; gen = cc }
@@ -180,9 +188,9 @@ module _ {G V : Type 0} (alike : G → G → Bool) where
       let y = old_stem e later h s k l m i j q in
       let b = kept later h s k u a l y.line i y.was (q ∙ sym y.number) in
       let w = sent e (roll (later ++ h)).lines m y in
-      record { carried = (y.line.stand, b.carried, y.passes); reported = (ptr y.line.stand, b.reported, w.0); gen = w.1 ∙ b.gen }
+      record { carried = (y.line.stand, b.carried, map_in (λ (z : Line G V). z.stand) y.line (roll (later ++ h)).lines y.was, y.passes); reported = (ptr y.line.stand, b.reported, w.0); gen = w.1 ∙ b.gen }
 
-  ordered : (later h : List (Entry G V)) (s : Slots G V) → Leads alike h s → (t : Slots G V) → Leads alike (later ++ h) t → Ordered later h
+  pub ordered : (later h : List (Entry G V)) (s : Slots G V) → Leads alike h s → (t : Slots G V) → Leads alike (later ++ h) t → Ordered later h
   ordered [] h s k t a l l' m m' i i' j j' e e' lt =
       let q = (sound h s k).one l m i j e in
       let q' = (sound h s k).one l' m' i' j' e' in
@@ -197,11 +205,3 @@ module _ {G V : Type 0} (alike : G → G → Bool) where
   pub earlier : (later h : List (Entry G V)) (t : Slots G V) → Leads alike (later ++ h) t → (s : Slots G V) × Leads alike h s
   earlier [] h t a = (t, a)
   earlier (e ∷ later) h t (next {t = u} a x) = earlier later h u a
-
-  pub lawful : (s : Slots G V) (len : ℕ) → len ≡ count s → Lawful alike s len
-  lawful s len c = record {
-    stands = λ h a. stands h s a len c;
-    arrived = λ h a. arrived h s a;
-    kept = λ later h a. let b = earlier later h s a in kept later h b.0 b.1 s a;
-    ordered = λ later h a. let b = earlier later h s a in ordered later h b.0 b.1 s a;
-  }

@@ -12,7 +12,8 @@ use Rattle.history.specs.Laws.{In, Brings, Follows, standing_after}
 use Rattle.history.specs.Directories.{Directory, value_of, pairs_in, Holds, recast_by}
 use Rattle.history.specs.Spans.{is_compress, compresses, unbroken, Stood, StoodAt, Gives, Apart, Span, up_to, ended, all_ended, up_to_last, directories, Successive, AllApart, Recasts, Finds, Promise}
 use Rattle.history.proofs.Stems.{New, Stem, stems, grows, in_map, map_in}
-use Rattle.history.proofs.Runs.{Sound, sound, stands, sent, grown, earlier, brings_one, new_below, lawful}
+use Rattle.history.proofs.Runs.{Sound, sound, stands, sent, grown, earlier, brings_one, new_below}
+use Rattle.history.proofs.Lawful.{lawful}
 use Rattle.history.proofs.Joins.{then, through, recast_joined, any_bracketing}
 
 none_added : {X : Type 0} (x : X) (front back : List X) → [] ≡ front ++ (x ∷ back) → ⊥
@@ -40,15 +41,15 @@ module _ {G V : Type 0} where
   gives_on e h es n p (inr x) = inr (record { by = x.by; before = x.before; since = e ∷ x.since; whole = cc x.whole; place = x.place; first = x.first; brought = x.brought; counted = x.counted; pointer = x.pointer })
 
   -- what was added is added by the newest call, or was before it
-  record Newest (e : Entry G V) (h es : List (Entry G V)) (n : ℕ) (p : Ptr G) : Type 0 where
-    went : e.accepted ≡ true
-    place : ℕ
-    first : Held G V
-    brought : Brings e.call place first
-    counted : n ≡ (roll (es ++ h)).next + place
-    pointer : p ≡ ptr first
+  pub record Newest (e : Entry G V) (h es : List (Entry G V)) (n : ℕ) (p : Ptr G) : Type 0 where
+    pub went : e.accepted ≡ true
+    pub place : ℕ
+    pub first : Held G V
+    pub brought : Brings e.call place first
+    pub counted : n ≡ (roll (es ++ h)).next + place
+    pub pointer : p ≡ ptr first
 
-  last_given : (e : Entry G V) (h es : List (Entry G V)) (n : ℕ) (p : Ptr G) → Gives h (e ∷ es) n p → Newest e h es n p ⊎ Gives h es n p
+  pub last_given : (e : Entry G V) (h es : List (Entry G V)) (n : ℕ) (p : Ptr G) → Gives h (e ∷ es) n p → Newest e h es n p ⊎ Gives h es n p
   last_given e h es n p (inl x) = inr (inl x)
   last_given e h es n p (inr x) = by_since x.since x.whole
     where
@@ -62,6 +63,11 @@ module _ {G V : Type 0} where
   added_below : (e : Entry G V) (h es : List (Entry G V)) (n : ℕ) (p : Ptr G) → Newest e h es n p → n < (roll (e ∷ es ++ h)).next
   added_below e h es n p x = omega (arith, x.counted, new_below e.call e.accepted (roll (es ++ h)) x.place x.first x.went x.brought)
 
+  -- a span without calls gives what it opened with
+  pub given_first : (h : List (Entry G V)) (n : ℕ) (p : Ptr G) → Gives h [] n p → StoodAt h n p
+  given_first h n p (inl x) = x
+  given_first h n p (inr a) = absurd (none_added _ a.since a.before a.whole)
+
   known_made : (h : List (Entry G V)) (s : Slots G V) → Sound (roll h) s → Known h []
   known_made h s d = record {
     every = λ l i. inl (l, i, refl, refl);
@@ -70,12 +76,10 @@ module _ {G V : Type 0} where
   }
     where
       stays : (n : ℕ) (p : Ptr G) → Gives h [] n p → (l : Line G V) → In l (roll h).lines → l.number ≡ n → ptr l.stand ≡ p
-      stays n p (inl x) l i e = let q : l ≡ x.0 = d.one l x.0 i x.1 (e ∙ sym x.2) in rw q x.3
-      stays n p (inr a) l i e = absurd (none_added _ a.since a.before a.whole)
+      stays n p g l i e = let x = given_first h n p g in let q : l ≡ x.0 = d.one l x.0 i x.1 (e ∙ sym x.2) in rw q x.3
 
       below : (n : ℕ) (p : Ptr G) → Gives h [] n p → n < (roll h).next
-      below n p (inl x) = omega (arith, d.below x.0 x.1, x.2)
-      below n p (inr a) = absurd (none_added _ a.since a.before a.whole)
+      below n p g = let x = given_first h n p g in omega (arith, d.below x.0 x.1, x.2)
 
   known_next : (e : Entry G V) (h es : List (Entry G V)) (s : Slots G V) → Sound (roll (es ++ h)) s → compresses e ≡ false → Known h es → Known h (e ∷ es)
   known_next e h es s d c k = record {

@@ -1,12 +1,12 @@
 -- What holds of an arena after every history that leads to it.
-use Rattle.std.specs.Prelude.{◌≡◌, ℕ, ◌+◌, ◌<◌, Bool, true, cond, ◌⊎◌, List, [], ◌∷◌, ◌++◌, length, Some, None, Option, ◌==◌}
+use Rattle.std.specs.Prelude.{◌≡◌, ℕ, ◌+◌, ◌<◌, ◌≤◌, Bool, true, cond, ◌⊎◌, List, [], ◌∷◌, ◌++◌, length, Some, None, Option, ◌==◌}
 use Rattle.std.specs.List.{slice_get}
 use Rattle.kinds.specs.Places.{slot_at}
 use Rattle.kinds.specs.declared.slot.DirectSlot.TheVariants.{Allocated}
 use Rattle.history.specs.Slots.{Slots, Ptr, Held, ptr, revalued, at}
 use Rattle.history.specs.Mapped.{records, in_place, moving, report, those_named}
 use Rattle.history.specs.Recasts.{Recasting, or_kept, recast_or_kept, all_recast}
-use Rattle.history.specs.Calls.{slot_of, slots_of, Call, insert, edit, edit_all, remove, drain, clear, bring, hand_over, compress, recast, join, trim, reallocate, limit, Entry, recast_of, Leads}
+use Rattle.history.specs.Calls.{Name, index, pointer, slot_of, slots_of, Call, insert, edit, edit_all, remove, drain, clear, bring, hand_over, compress, recast, join, trim, reallocate, limit, Entry, recast_of, Leads}
 use Rattle.history.specs.Roll.{Line, standing, roll}
 
 abbrev pub In : {X : Type 0} → X → List X → Type 0
@@ -76,10 +76,11 @@ abbrev pub standing_after : {G V : Type 0} → List (Entry G V) → List (Held G
 standing_after h = standing (roll h).lines
 
 -- A record carried through the calls that came after a history, one after the other: its slot, its generation and its
--- latest value.
+-- latest value. Before each of the calls it stands.
 abbrev pub Carried : {G V : Type 0} → (later h : List (Entry G V)) → Held G V → Held G V → Type 0
 Carried [] h old new = new ≡ old
-Carried {G} {V} (e ∷ later) h old new = (between : Held G V) × Carried later h old between × Passes e (standing_after (later ++ h)) between new
+Carried {G} {V} (e ∷ later) h old new =
+    (between : Held G V) × Carried later h old between × In between (standing_after (later ++ h)) × Passes e (standing_after (later ++ h)) between new
 
 -- where an accepted call leaves a pointer's record: a compression by its report, any other call in its slot
 abbrev pub Sends : {G V : Type 0} → Call G V → List (Held G V) → Ptr G → Ptr G → Type 0
@@ -124,6 +125,17 @@ Brings (trim n) k first = ⊥
 Brings (reallocate r) k first = ⊥
 Brings (limit l) k first = ⊥
 
+-- how many records an accepted call brings in
+abbrev pub brought_in : {G V : Type 0} → Call G V → ℕ
+brought_in (insert p v) = 1
+brought_in (bring hs) = length hs
+brought_in c = 0
+
+-- how many a history has brought in
+abbrev pub arrivals : {G V : Type 0} → List (Entry G V) → ℕ
+arrivals [] = 0
+arrivals (e ∷ h) = arrivals h + cond e.accepted (brought_in e.call) 0
+
 -- A standing record was brought in by an accepted insertion, clone or transfer: its number is how many came before it.
 -- What was brought in, carried through the calls since, is what stands: in its first slot, carried through the report
 -- of each compression since, and under its first generation.
@@ -135,7 +147,7 @@ pub record Arrived {G V : Type 0} (h : List (Entry G V)) (l : Line G V) : Type 0
   pub since : List (Entry G V)
   pub whole : h ≡ since ++ (record { call = by; accepted = true } ∷ before)
   pub brought : Brings by place first
-  pub number : l.number ≡ (roll before).next + place
+  pub number : l.number ≡ arrivals before + place
   pub carried : Carried since (record { call = by; accepted = true } ∷ before) first l.stand
   pub reported : Reported since (record { call = by; accepted = true } ∷ before) (ptr first) (ptr l.stand)
   pub gen : l.stand.gen ≡ first.gen
@@ -155,9 +167,42 @@ abbrev pub Ordered : {G V : Type 0} → (later h : List (Entry G V)) → Type 0
 Ordered {G} {V} later h = (l l' m m' : Line G V) → In l (roll h).lines → In l' (roll h).lines → In m (roll (later ++ h)).lines → In m' (roll (later ++ h)).lines →
     l.number ≡ m.number → l'.number ≡ m'.number → l.stand.slot < l'.stand.slot → m.stand.slot < m'.stand.slot
 
+-- A record is carried to one record at most, and a pointer to one pointer.
+pub record Once {G V : Type 0} (later h : List (Entry G V)) : Type 0 where
+  pub record_of : (old a b : Held G V) → Carried later h old a → Carried later h old b → a ≡ b
+  pub pointer_of : (old a b : Ptr G) → Reported later h old a → Reported later h old b → a ≡ b
+
+-- no number is here twice
+abbrev pub Different : List ℕ → Type 0
+Different [] = Unit {0}
+Different (n ∷ ns) = (In n ns → ⊥) × Different ns
+
+module _ {G V : Type 0} (alike : G → G → Bool) where
+  -- the record named is one of these: by a pointer, under its generation
+  abbrev pub Named : Name G → List (Line G V) → Type 0
+  Named (index n) lines = (l : Line G V) × In l lines × (l.stand.slot ≡ n)
+  Named (pointer p) lines = (l : Line G V) × In l lines × (l.stand.slot ≡ p.slot) × (alike l.stand.gen p.gen ≡ true)
+
+  abbrev pub AllNamed : List (Name G) → List (Line G V) → Type 0
+  AllNamed [] lines = Unit {0}
+  AllNamed (name ∷ names) lines = Named name lines × AllNamed names lines
+
+  -- What stood when a call was accepted: an insertion found no record in its slot, and a call that names records found
+  -- them; a list edit found each once, and a recast held all values.
+  abbrev pub Allowed : Call G V → List (Line G V) → Type 0
+  Allowed (insert p v) lines = (1 ≤ p.slot) × ((l : Line G V) → In l lines → l.stand.slot ≡ p.slot → ⊥)
+  Allowed (edit name v) lines = Named name lines
+  Allowed (edit_all names f) lines = AllNamed names lines × Different (slots_of names)
+  Allowed (remove name) lines = Named name lines
+  Allowed (drain (Some p)) lines = Named (pointer p) lines
+  Allowed (recast q) lines = (l : Line G V) → In l lines → (v : V) × (q l.stand.value ≡ Some v)
+  Allowed c lines = Unit {0}
+
 -- The whole promise, of slots and a count: whichever history led to them.
 pub record Lawful {G V : Type 0} (alike : G → G → Bool) (s : Slots G V) (len : ℕ) : Type 0 where
   pub stands : (h : List (Entry G V)) → Leads alike h s → Stands (roll h).lines s len
   pub arrived : (h : List (Entry G V)) → Leads alike h s → (l : Line G V) → In l (roll h).lines → Arrived h l
   pub kept : (later h : List (Entry G V)) → Leads alike (later ++ h) s → Carries later h
+  pub once : (later h : List (Entry G V)) → Leads alike (later ++ h) s → Once later h
   pub ordered : (later h : List (Entry G V)) → Leads alike (later ++ h) s → Ordered later h
+  pub allowed : (later h : List (Entry G V)) (c : Call G V) → Leads alike (later ++ (record { call = c; accepted = true } ∷ h)) s → Allowed alike c (roll h).lines

@@ -7,3 +7,4 @@ pub mod Roll
 pub mod Laws
 pub mod Directories
 pub mod Spans
+pub mod Followed

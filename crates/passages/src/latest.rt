@@ -8,7 +8,7 @@ use stack::FixedStack;
 
 pub type PointerSlot = DirectSlot<SeasonGen, Pointer>;
 
-/// The directory of a register's latest compression: at each pointer of then the pointer that came of it.
+/// The directory of a compression, or of some joined: at each pointer of then the pointer that came of it.
 pub type Directory<'a> = DirectArena<Pointer, Pointer, FixedStack<'a, PointerSlot>>;
 
 /// An empty directory over the slots that the caller lends.

@@ -6,16 +6,13 @@
 
 use kinds::DirectSlot;
 use passages::{PointerSlot, Slot, open, open_directory};
-use runner::run;
+use runner::{MOST_READ, run};
 use std::io;
 use std::io::{Read, Write};
 
-// One byte more than a script may have: so a longer one is seen, and not read whole.
-const MOST: u64 = 65_537;
-
 fn main(rt: HostRuntime) -> io::Result<()> {
     let mut input = Vec::new(rt.alloc());
-    rt.stdin().take(MOST).read_to_end(&mut input)?;
+    rt.stdin().take(MOST_READ).read_to_end(&mut input)?;
     let mut slots: [Slot; 256] = [DirectSlot::Free; 256];
     let mut register = open(&mut slots);
     let mut pointers: [PointerSlot; 256] = [DirectSlot::Free; 256];

@@ -6,4 +6,5 @@
 
 pub mod script;
 
+pub use lines::script::MOST_READ;
 pub use script::run;

@@ -8,7 +8,7 @@
 mod tests {
     use kinds::DirectSlot;
     use passages::{PointerSlot, Slot, open, open_directory};
-    use runner::run;
+    use runner::{MOST_READ, run};
     use std::alloc::{AllocError, Global};
     use std::test::Fail;
 
@@ -79,6 +79,7 @@ mod tests {
         let fits = padded(heap, 65_536)?;
         let beyond = padded(heap, 65_537)?;
         assert!(rt; fits.len() == 65_536);
+        assert!(rt; MOST_READ == 65_537);
         assert!(rt; !refused(heap, fits.as_slice())?);
         assert!(rt; refused(heap, beyond.as_slice())?);
         Ok(())

@@ -50,7 +50,7 @@ pub fn find_record<G: PtrGen, V: Copy, S: NonZeroInxGenericStack<Slot = DirectSl
     }
 }
 
-/// Whether a slot is free, or beyond the slots.
+/// Whether a slot is free, or there is no such slot.
 pub fn is_vacant<G: Copy, V: Copy, S: NonZeroInxGenericStack<Slot = DirectSlot<G, V>>>(
     m: &S,
     slot: usize,

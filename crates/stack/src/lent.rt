@@ -7,7 +7,7 @@ use outcome::NotWithinCapacityError;
 use std::mem::replace;
 
 // Functions over a slice and its length, to which stacks over lent slots hand theirs: a rule of this project, where
-// methods of a struct of the two would do as well.
+// methods of a struct of the two would do as well. What the slots past the list hold is left free.
 
 // an index has at most 32 bits, and none is 0
 const MOST: usize = 4_294_967_295;

@@ -4,7 +4,7 @@ use Rattle.history.specs.Calls.{Entry, Leads}
 use Rattle.history.specs.Directories.{Directory, Brackets, one, both, bracketed, joined}
 use Rattle.history.specs.Slots.{Slots, count}
 use Rattle.history.specs.Spans.{Span, opens, ended, all_ended, Successive, Promise}
-use Rattle.history.proofs.Runs.{lawful}
+use Rattle.history.proofs.Lawful.{lawful}
 use Rattle.kinds.specs.Kinds.{season_alike}
 use Rattle.kinds.specs.declared.generation.SeasonGen.{SeasonGen}
 use Rattle.kinds.specs.declared.slot.DirectSlot.{DirectSlot}

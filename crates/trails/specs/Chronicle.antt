@@ -10,13 +10,13 @@ use Rattle.kinds.specs.Kinds.{season_alike}
 use Rattle.kinds.specs.declared.generation.SeasonGen.{SeasonGen}
 use Rattle.lines.specs.declared.error.LineError.{LineError}
 use Rattle.outcome.specs.Outcome.{Outcome}
-use Rattle.passages.specs.State.{Pointer, RegisterState, cite, capacity_of, short_view}
+use Rattle.passages.specs.State.{Pointer, RegisterState, cite, short_view}
 use Rattle.season.specs.Meaning.{meaning}
 use Rattle.season.specs.declared.call.Call.{Call}
 use Rattle.season.specs.declared.call.Call.TheVariants.{Insert, Remove, Edit, Compress, Cite}
 use Rattle.answers.specs.declared.refusal.Refusal.{Refusal}
 use Rattle.trails.specs.Answers.{Gets, Notes}
-use Rattle.trails.specs.Reports.{of_call, used, copied}
+use Rattle.trails.specs.Reports.{settings_of, of_call, used, copied}
 use Rattle.trails.specs.declared.trail.Citation.{Citation}
 
 -- the call of the register's history that a season's call is; a citation is none
@@ -90,7 +90,7 @@ rooms_with rooms p o = rooms
 pub record LineDone (a : Point) (p : Result Call LineError) (answer : Result (Option Pointer) Refusal) (b : Point) : Type 0 where
   pub gets : Gets a.register a.rooms p (of_call answer)
   pub slots : b.register.slots ≡ left_by (adds p (of_call answer)) a.register.slots
-  pub room : capacity_of b.register ≡ capacity_of a.register
+  pub settings : settings_of b.register ≡ settings_of a.register
   pub number : b.number ≡ min (a.number + 1) 18446744073709551615
   pub compressions : b.compressions ≡ counted_with a.compressions p (of_call answer)
   pub rooms : b.rooms ≡ rooms_with a.rooms p (of_call answer)

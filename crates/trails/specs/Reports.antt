@@ -8,9 +8,13 @@ use Rattle.history.specs.Slots.{Held}
 use Rattle.kinds.specs.declared.generation.SeasonGen.{SeasonGen}
 use Rattle.kinds.specs.declared.slot.DirectSlot.{DirectSlot}
 use Rattle.outcome.specs.Outcome.{Outcome, done, refused}
-use Rattle.passages.specs.State.{Pointer, short_view}
+use Rattle.passages.specs.State.{Pointer, RegisterState, short_view}
 use Rattle.stack.specs.Fixed.{fixed_list, fixed_lent}
 use Rattle.stack.specs.declared.fixed.FixedStack.{FixedStack}
+
+-- a register but for its slots: its room, what is lent to it, and its limit
+abbrev pub settings_of : RegisterState → RegisterState
+settings_of r = record { slots = []; room = r.room; lent = r.lent; limit = r.limit }
 
 -- carried out, or refused under a number
 abbrev pub of_call : {X : Type 0} → Result X Refusal → Outcome X

@@ -8,7 +8,7 @@ ghost use Rattle.kinds.specs.Kinds.{season_alike};
 ghost use Rattle.passages.specs.State.{register_of, capacity_of, short_view};
 ghost use Rattle.slots.specs.Inserted.{insert_answer};
 ghost use Rattle.slots.specs.Records.{found};
-ghost use Rattle.trails.specs.Reports.{of_call, held_or_not, first_reports, rooms_left, takes, used, Added};
+ghost use Rattle.trails.specs.Reports.{settings_of, of_call, held_or_not, first_reports, rooms_left, takes, used, Added};
 
 use answers::refusal::Refusal;
 use directory::compress_into;
@@ -18,7 +18,7 @@ use passages::{Directory, Pointer, Register};
 pub(crate) fn insert(register: &mut Register<'_>, p: Pointer, value: u32) -> Result<(), Refusal>
     ensures answer { of_call result ≡ insert_answer (capacity_of (register_of register.old)) (short_view p) (register_of register.old).slots }
     ensures step { Step season_alike (entry (insertion (short_view p) value) (of_call result)) (register_of register.old).slots (register_of register.new).slots }
-    ensures room { capacity_of (register_of register.new) ≡ capacity_of (register_of register.old) }
+    ensures settings { settings_of (register_of register.new) ≡ settings_of (register_of register.old) }
 {
     register.direct_insert_within_capacity(p, value)?;
     Ok(())
@@ -27,7 +27,7 @@ pub(crate) fn insert(register: &mut Register<'_>, p: Pointer, value: u32) -> Res
 pub(crate) fn remove(register: &mut Register<'_>, p: Pointer) -> Result<(), Refusal>
     ensures answer { of_call result ≡ held_or_not (found season_alike (short_view p) (register_of register.old).slots) }
     ensures step { Step season_alike (entry (removal (by_pointer (short_view p))) (of_call result)) (register_of register.old).slots (register_of register.new).slots }
-    ensures room { capacity_of (register_of register.new) ≡ capacity_of (register_of register.old) }
+    ensures settings { settings_of (register_of register.new) ≡ settings_of (register_of register.old) }
 {
     let _ = register.remove(p).allow().ok_or(Refusal::NotFound)?;
     Ok(())
@@ -36,7 +36,7 @@ pub(crate) fn remove(register: &mut Register<'_>, p: Pointer) -> Result<(), Refu
 pub(crate) fn edit(register: &mut Register<'_>, p: Pointer, value: u32) -> Result<(), Refusal>
     ensures answer { of_call result ≡ held_or_not (found season_alike (short_view p) (register_of register.old).slots) }
     ensures step { Step season_alike (entry (editing (by_pointer (short_view p)) value) (of_call result)) (register_of register.old).slots (register_of register.new).slots }
-    ensures room { capacity_of (register_of register.new) ≡ capacity_of (register_of register.old) }
+    ensures settings { settings_of (register_of register.new) ≡ settings_of (register_of register.old) }
 {
     let _ = register.edit(p, value).ok_or(Refusal::NotFound)?;
     Ok(())
@@ -53,7 +53,7 @@ pub(crate) fn compress(
     ensures filled { filled.new ≡ cond (went (of_call result)) (filled.old + 1) filled.old }
     ensures rooms { rooms_left filled.new directories.new.items ≡ used (went (of_call result)) (rooms_left filled.old directories.old.items) }
     ensures added { Added (went (of_call result)) (report (records (register_of register.old).slots)) (first_reports filled.old directories.old.items) (first_reports filled.new directories.new.items) }
-    ensures room { capacity_of (register_of register.new) ≡ capacity_of (register_of register.old) }
+    ensures settings { settings_of (register_of register.new) ≡ settings_of (register_of register.old) }
 {
     let directory = directories
         .get_mut(*filled)

@@ -8,6 +8,9 @@ use std::alloc::{AllocError, Global};
 /// The slots of a directory, as many as a register has at most.
 pub const ROOM: usize = 256;
 
+/// How many compressions a season of the program may have.
+pub const COMPRESSIONS: usize = 64;
+
 /// Empty directories, one for each `ROOM` of the slots that the caller lends.
 pub fn open_directories<'a>(
     heap: Global,

@@ -11,6 +11,7 @@ pub mod register;
 pub mod seasons;
 pub mod trail;
 
-pub use directories::{ROOM, open_directories};
+pub use directories::{COMPRESSIONS, ROOM, open_directories};
+pub use lines::script::MOST_READ;
 pub use register::open_register;
 pub use seasons::run;

@@ -1,13 +1,13 @@
 // A season from its first line to its last, and then the trails of its citations.
 ghost use Rattle.std.specs.Prelude.{◌≡◌, ℕ, [], IfOk, OnOk, string_bytes};
 ghost use Rattle.lines.specs.Script.{script_of};
-ghost use Rattle.passages.specs.State.{register_of, capacity_of};
+ghost use Rattle.passages.specs.State.{register_of};
 ghost use Rattle.stack.specs.Fixed.{fixed_lent};
 ghost use Rattle.text.specs.Split.{lines_of};
 ghost use Rattle.trails.specs.Chronicle.{adds, left_by, counted_with, rooms_with, GoesOn, Ran};
 ghost use Rattle.trails.specs.Whole.{Whole, WholeOf};
 ghost use Rattle.trails.specs.Answers.{Gets, Notes};
-ghost use Rattle.trails.specs.Reports.{of_call, reports_in, first_reports, rooms_left};
+ghost use Rattle.trails.specs.Reports.{settings_of, of_call, reports_in, first_reports, rooms_left};
 ghost use Rattle.trails.specs.Today.{AllTold};
 
 use crate::calls;
@@ -32,7 +32,7 @@ fn carry_out(
     ensures answer { Gets (register_of register.old) (rooms_left filled.old directories.old.items) line (of_call result) }
     ensures chronicle { GoesOn (adds line (of_call result)) (first_reports filled.old directories.old.items) (first_reports filled.new directories.new.items) (register_of register.old).slots (register_of register.new).slots }
     ensures slots { (register_of register.new).slots ≡ left_by (adds line (of_call result)) (register_of register.old).slots }
-    ensures room { capacity_of (register_of register.new) ≡ capacity_of (register_of register.old) }
+    ensures settings { settings_of (register_of register.new) ≡ settings_of (register_of register.old) }
     ensures filled { filled.new ≡ counted_with filled.old line (of_call result) }
     ensures rooms { rooms_left filled.new directories.new.items ≡ rooms_with (rooms_left filled.old directories.old.items) line (of_call result) }
 {
@@ -109,7 +109,8 @@ fn add_trails(
     directories: &[Directory<'_>],
     citations: &[Citation],
 ) -> Result<(), AllocError>
-    ensures { OnOk result (AllTold (fixed_lent scratch.old) (register_of register.now).slots directories.now citations.now (string_bytes out.old) (string_bytes out.new)) }
+    ensures told { OnOk result (AllTold (fixed_lent scratch.old) (register_of register.now).slots directories.now citations.now (string_bytes out.old) (string_bytes out.new)) }
+    ensures lent { fixed_lent scratch.new ≡ fixed_lent scratch.old }
 {
     for citation in citations {
         add_trail(out, register, scratch, directories, *citation)?;
@@ -126,7 +127,8 @@ fn add_all(
     scratch: &mut Directory<'_>,
     lines: &[u8],
 ) -> Result<(), AllocError>
-    ensures { OnOk result (Whole (lines_of lines.now) (rooms_left 0 directories.old.items) (fixed_lent scratch.old) directories.new.items (register_of register.old) (register_of register.new) (string_bytes out.old) (string_bytes out.new)) }
+    ensures whole { OnOk result (Whole (lines_of lines.now) (rooms_left 0 directories.old.items) (fixed_lent scratch.old) directories.new.items (register_of register.old) (register_of register.new) (string_bytes out.old) (string_bytes out.new)) }
+    ensures lent { fixed_lent scratch.new ≡ fixed_lent scratch.old }
 {
     let mut citations = Vec::new(heap);
     let compressions = add_season(out, &mut citations, register, directories, lines)?;
@@ -157,7 +159,8 @@ pub fn run(
     scratch: &mut Directory<'_>,
     input: &[u8],
 ) -> Result<String, AllocError>
-    ensures { IfOk result (λ out. WholeOf (script_of input.now) (fixed_lent scratch.old) directories.old.items directories.new.items (register_of register.old) (register_of register.new) (string_bytes out)) }
+    ensures whole { IfOk result (λ out. WholeOf (script_of input.now) (fixed_lent scratch.old) directories.old.items directories.new.items (register_of register.old) (register_of register.new) (string_bytes out)) }
+    ensures lent { fixed_lent scratch.new ≡ fixed_lent scratch.old }
 {
     let mut out = String::new(heap);
     match after_names(input) {
