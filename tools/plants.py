@@ -70,7 +70,8 @@ def edit(folder, changes):
         # the attributes stay where they are, before the new text
         flat = " ".join(re.sub(r"^\s*//.*$|\s// .*$", "", body, flags=re.M).replace(old, new).split())
         flat = flat[flat.index(head.split("(")[0]) :]
-        after = [l.strip() for l in text[end:].split("\n") if len(l.strip()) > 3 and unique(text, l.strip())]
+        behind = text[end:].split("\n}\n")[0].split("\n")
+        after = [l.strip() for l in behind if len(l.strip()) > 3 and unique(text, l.strip())]
         if after:
             lines += [f"old: {head}", f"new: {flat} /* {head}", f"old: {after[0]}", f"new: */ {after[0]}"]
         else:
