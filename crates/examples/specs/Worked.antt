@@ -61,9 +61,9 @@ pub record Worked : Type 0 where
   pub popped : (g : SeasonGen) (v : ℕ) → length (Allocated g v ∷ Free ∷ Free ∷ []) - length (trimmed 5 (Allocated g v ∷ Free ∷ Free ∷ [])) ≡ 2
   -- two reports joined: what the second does not hold, or holds under another season only, is not there any more
   pub joined : (g h : SeasonGen) →
-      Holds view
+      (Holds view
       (joined_with season_alike view (filled_slots point (pair g 2 1 ∷ pair h 4 2 ∷ [])) (filled_slots point (pair h 2 1 ∷ [])))
-      (pair h 4 1 ∷ [])
-  pub unfit : Holds view
+      (pair h 4 1 ∷ []))
+      × (Holds view
       (joined_with season_alike view (filled_slots point (pair (record { season = 1 }) 4 2 ∷ [])) (filled_slots point (pair (record { season = 2 }) 2 1 ∷ [])))
-      []
+      [])
