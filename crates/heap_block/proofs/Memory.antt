@@ -7,8 +7,7 @@
 --     opens_block, closes_block    a `&mut` to a block
 use mathlib.Core.Path.{◌≡◌, refl, sym, ap, ◌∙◌}
 use Prim.Native.Nat.{ℕ, zero, suc, ◌+◌, ◌*◌, ◌<◌, ◌≤◌, ◌^◌}
-use native.Mathlib.Nat.{not-suc-le-zero, le_of_suc-le-suc, zero-mul, suc-mul}
-use native.Mathlib.Omega.{arith}
+use native.Mathlib.Nat.{not-suc-le-zero, le_of_suc-le-suc}
 use mathlib.Core.List.{List, [], ◌∷◌, ◌++◌}
 use lib.ListN.{length, get_or}
 use seplogic.Ra.Ura.{Ura}
@@ -37,16 +36,16 @@ use denote.Struct.Struct.{Struct}
 use denote.Struct.Owning.{shape}
 use Rattle.std.specs.Mem.{type_size}
 use Rattle.std.proofs.mem.Param.{El, R, el_x, elτ, Good}
+use Rattle.std.proofs.ptr.Rows.{one_below}
 use Rattle.std.proofs.slice.Rows.{el_out, el_in}
 use Rattle.std.proofs.alloc.Calls.{Al, token}
 use Rattle.heap_block.specs.Written.{written}
 use Rattle.heap_block.specs.Places.{rest, place, places, place_lent, places_lent, block_owns}
 use Rattle.heap_block.specs.contracts.block.Block as C
 
--- a product that fits a word is that of the capped size too
-pub uncapped : (n k : ℕ) → n * k < 2 ^ 64 → n * capped k ≡ n * k
-uncapped zero k fits = zero-mul (capped k) ∙ sym (zero-mul k)
-uncapped (suc n) k fits = let more = suc-mul n k in ap (λ (j : ℕ). suc n * j) (capped_is k (omega arith))
+-- a size of which some fit a word is its own cap
+pub uncapped : (n k : ℕ) → 0 < n → n * k < 2 ^ 64 → n * capped k ≡ n * k
+uncapped n k pos fits = ap (λ (j : ℕ). n * j) (capped_is k (one_below n k (2 ^ 64) pos fits))
 
 module _ (E : El) where
   abbrev pub sz : ℕ

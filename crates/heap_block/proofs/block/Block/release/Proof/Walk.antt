@@ -112,7 +112,7 @@ module _ (E : El) (Z : Al) {M : Type 1} {𝓤 : Ura M} (𝓛 : Logic 𝓤) (𝓜
         let gives : (Gives Z 𝓛 𝓜.mem 𝓡.returns).Ghost = at_gives Z 𝓛 𝓜.mem 𝓡.returns κ q hp heap b o (n * s) al (block_ty E n) in
         use1 𝓛 (‵ (froom τs b o)) (all_room E 𝓛 b n h.slots o) $ use1 𝓛 (‵ (froom (block_ty E n) b o)) (𝓛.laws.room-raw τs b o) $
         blocks ! $ sets ! (is ! (of_opd ! (get ! refl)) (ap ptr_val at_b)) refl (tt, tt) $
-        sets ! (is ! (bin ! (get ! refl) (size_word !) (record { fits = subst (λ (k : ℕ). k < 2 ^ 64) (sym (uncapped n s bytes)) bytes })) (ap (vint w64) (uncapped n s bytes))) refl (tt, record { fits = bytes }) $
+        sets ! (is ! (bin ! (get ! refl) (size_word !) (record { fits = subst (λ (k : ℕ). k < 2 ^ 64) (sym (uncapped n s pos bytes)) bytes })) (ap (vint w64) (uncapped n s pos bytes))) refl (tt, record { fits = bytes }) $
         group ! 4 $ use1 𝓛 (raw ((Gives Z 𝓛 𝓜.mem 𝓡.returns).pre gives))
         (Gives-goes Z 𝓛 𝓜.mem 𝓡.returns κ q hp heap (Incl-trans z.0.2.0 outlived) b o (n * s) al (block_ty E n) (block_size E n bytes) (block_align E n) bytes (capped_fits (align (elτ E)))) $
         calls_at_last ! (framed 𝓤 𝓛.H 𝓜 𝓣) (Gives Z 𝓛 𝓜.mem 𝓡.returns) callee gives (and_then ! (get ! refl) (and_then ! (get ! refl) (and_then ! (get ! refl) (and_then ! (align_word !) (no_more !))))) (λ v.
