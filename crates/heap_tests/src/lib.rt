@@ -1,8 +1,11 @@
 //! Examples of the heap stack: capacities up and down, what is refused, slots of three types, and a limit above it.
-//! It may use `heap_stack`, `limited` and every library below them, and nothing uses it.
+//! It may use `heap_stack`, `limited` and every library below them, `heap_block` too, and nothing uses it.
 //! A new call on the heap stack gets its examples here, at the limits and refused, in few calls each.
 
 #![tactic(auto)]
+
+pub mod blocks;
+pub mod never_refused;
 
 #[cfg(test)]
 mod tests {

@@ -1,0 +1,41 @@
+// A block alone: it holds what was written last, and its owner must give it back, once.
+ghost use Rattle.std.specs.Prelude.{◌≡◌, IfSome};
+
+use heap_block::{Block, is_small};
+use std::alloc::Allocator;
+
+/// Two slots of a block, of which one was written twice; none where there is no memory.
+pub fn written_and_read<A: Allocator>(heap: &A) -> Option<(u64, u64)>
+    ensures { IfSome result (λ r. r ≡ (7, 6)) }
+{
+    if !is_small::<u64>() {
+        return None;
+    }
+    let Ok(mut block) = Block::obtain(heap, 3) else {
+        return None;
+    };
+    block.write(0, 5);
+    block.write(1, 6);
+    block.write(0, 7);
+    let read = (*block.slot(0), *block.slot(1));
+    block.release(heap, 3);
+    Some(read)
+}
+
+#[cfg(test)]
+mod tests {
+    use super::written_and_read;
+    use heap_block::Block;
+    use std::alloc::Global;
+
+    #[test]
+    fn a_block_is_written_read_and_given_back(rt: HostRuntime) {
+        assert!(rt; written_and_read(&rt.alloc()) == Some((7, 6)));
+    }
+
+    #[test]
+    fn no_block_is_given_back_too(rt: HostRuntime) {
+        let heap = rt.alloc();
+        Block::<u64, Global>::none(&heap).release(&heap, 0);
+    }
+}
