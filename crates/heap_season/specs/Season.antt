@@ -1,0 +1,52 @@
+-- What the calls of a season answer, over any stack.
+use Rattle.std.specs.Prelude.{ℕ, min, length, Some, None, Option}
+use Rattle.answers.specs.declared.answer.Concerned.{Concerned}
+use Rattle.answers.specs.declared.answer.Concerned.TheVariants.{Record, Pointer as Cited}
+use Rattle.answers.specs.declared.answer.Tally.{Tally}
+use Rattle.arena.specs.Answers.{cited}
+use Rattle.history.specs.Slots.{Slots, Ptr, count}
+use Rattle.kinds.specs.Kinds.{short_number}
+use Rattle.kinds.specs.declared.generation.SeasonGen.{SeasonGen}
+use Rattle.kinds.specs.declared.index.ShortInx.{ShortInx}
+use Rattle.kinds.specs.declared.pointer.PtrOf.{PtrOf}
+use Rattle.outcome.specs.Outcome.{Outcome, done, overflowed, refused}
+
+abbrev pub Pointer : Type 0
+Pointer = PtrOf ShortInx SeasonGen
+
+-- a pointer as its index's number and its season
+abbrev pub view : Pointer → Ptr SeasonGen
+view = cited {P = Pointer} short_number (λ p. p.inx) (λ p. p.generation)
+
+-- what is held in these slots, in a stack of this capacity
+abbrev pub tally_of : {V : Type 0} → Slots SeasonGen V → ℕ → Tally
+tally_of s room = record { count = count s; slots = length s; capacity = min room 65535 }
+
+abbrev pub record_at : Pointer → ℕ → Concerned
+record_at p v = Record p.inx.raw p.generation.season v
+
+-- what a call that is done shows
+abbrev pub shown : {X : Type 0} → (X → Concerned) → Outcome X → Outcome Concerned
+shown f (done x) = done (f x)
+shown f (overflowed x) = overflowed (f x)
+shown f (refused n) = refused n
+
+-- done or refused, whatever is shown
+abbrev pub bare : {X : Type 0} → Outcome X → Outcome (Unit {0})
+bare (done x) = done tt
+bare (overflowed x) = overflowed tt
+bare (refused n) = refused n
+
+-- the pointer that is held, or 9
+abbrev pub held_answer : Option Pointer → Outcome Concerned
+held_answer None = refused 9
+held_answer (Some p) = done (Cited p.inx.raw p.generation.season)
+
+-- the record that is found, or 3
+abbrev pub found_answer : Option (Pointer × ℕ) → Outcome Concerned
+found_answer None = refused 3
+found_answer (Some x) = done (record_at x.0 x.1)
+
+-- the pointer of a number and a season
+abbrev pub point : Ptr SeasonGen → Pointer
+point p = record { inx = record { raw = p.slot }; generation = p.gen }
