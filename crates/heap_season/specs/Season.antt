@@ -1,11 +1,14 @@
 -- What the calls of a season answer, over any stack.
-use Rattle.std.specs.Prelude.{ℕ, min, length, Some, None, Option}
+use Rattle.std.specs.Prelude.{ℕ, min, List, ◌++◌, length, codes, Some, None, Option}
 use Rattle.answers.specs.declared.answer.Concerned.{Concerned}
-use Rattle.answers.specs.declared.answer.Concerned.TheVariants.{Record, Pointer as Cited}
+use Rattle.answers.specs.declared.answer.Concerned.TheVariants.{Record, Pointer as Cited, Nothing}
 use Rattle.answers.specs.declared.answer.Tally.{Tally}
+use Rattle.answers.specs.Shown.{Reply, reply_line}
 use Rattle.arena.specs.Answers.{cited}
+use Rattle.directory.specs.Find.{led_to}
+use Rattle.history.specs.Directories.{Directory, recast_by}
 use Rattle.history.specs.Slots.{Slots, Ptr, count}
-use Rattle.kinds.specs.Kinds.{short_number}
+use Rattle.kinds.specs.Kinds.{short_number, season_alike}
 use Rattle.kinds.specs.declared.generation.SeasonGen.{SeasonGen}
 use Rattle.kinds.specs.declared.index.ShortInx.{ShortInx}
 use Rattle.kinds.specs.declared.pointer.PtrOf.{PtrOf}
@@ -50,3 +53,17 @@ found_answer (Some x) = done (record_at x.0 x.1)
 -- the pointer of a number and a season
 abbrev pub point : Ptr SeasonGen → Pointer
 point p = record { inx = record { raw = p.slot }; generation = p.gen }
+
+-- the line of an answer, behind the name of its call
+abbrev pub line_of : List ℕ → Reply → List ℕ
+line_of call r = call ++ (codes " " ++ reply_line r)
+
+-- and that of what is held in these slots
+abbrev pub held_line : {V : Type 0} → Slots SeasonGen V → ℕ → List ℕ
+held_line s room = line_of (codes "held") (record { verdict = done Nothing; tally = tally_of s room })
+
+-- the lines of where a directory leads a pointer, and of the record there
+abbrev pub lead_lines : Slots SeasonGen ℕ → ℕ → Directory SeasonGen Pointer → ℕ → Pointer → List ℕ
+lead_lines s room d directory_room p =
+    line_of (codes "recast") (record { verdict = held_answer (recast_by season_alike view d p); tally = tally_of d directory_room })
+    ++ line_of (codes "find") (record { verdict = found_answer (led_to season_alike view s d p); tally = tally_of s room })

@@ -1,6 +1,7 @@
 // Many calls of a season at once, and the lines that are written of them.
-ghost use Rattle.std.specs.Prelude.{◌≡◌, ◌++◌, string_bytes, codes, OnOk};
-ghost use Rattle.answers.specs.Shown.{reply_of, reply_line};
+ghost use Rattle.std.specs.Prelude.{◌≡◌, ◌++◌, string_bytes, OnOk};
+ghost use Rattle.answers.specs.Shown.{reply_of};
+ghost use Rattle.heap_season.specs.Season.{line_of, held_line};
 
 use crate::calls::{held, insert, remove, reserve};
 use crate::register::{Register, Slot, pointer};
@@ -14,7 +15,7 @@ pub(crate) const SEASON: u32 = 1;
 
 /// Writes the line of an answer, behind the name of its call.
 pub(crate) fn add(out: &mut String, call: &str, answer: Answer) -> Result<(), AllocError>
-    ensures { OnOk result (string_bytes out.new ≡ string_bytes out.old ++ (call.now ++ (codes " " ++ reply_line (reply_of answer)))) }
+    ensures { OnOk result (string_bytes out.new ≡ string_bytes out.old ++ line_of call.now (reply_of answer)) }
 {
     out.push_str(call)?;
     out.push_str(" ")?;
@@ -55,6 +56,7 @@ pub(crate) fn thin<S: NonZeroInxGenericStack<Slot = Slot>>(
     apart: u16,
     slots: u16,
 ) -> Result<(), AllocError>
+    ensures line { OnOk result (string_bytes out.new ≡ string_bytes out.old ++ held_line (S.list register.new) (S.room (S.config register.new))) }
     ensures kept { S.config register.new ≡ S.config register.old }
 {
     for k in 0..slots {

@@ -1,4 +1,6 @@
 // The three seasons: over the heap, under a limit, and with two directories that are joined.
+ghost use Rattle.std.specs.Prelude.{◌≡◌, ◌++◌, string_bytes, OnOk};
+ghost use Rattle.heap_season.specs.Season.{lead_lines};
 
 use crate::calls::{
     clear, compress, find, held, insert, join, limit, recast, request, reserve, trim,
@@ -127,7 +129,9 @@ fn lead<S: NonZeroInxGenericStack<Slot = Slot>, D: NonZeroInxGenericStack<Slot =
     register: &Register<S>,
     directory: &Directory<D>,
     p: Pointer,
-) -> Result<(), AllocError> {
+) -> Result<(), AllocError>
+    ensures { OnOk result (string_bytes out.new ≡ string_bytes out.old ++ lead_lines (S.list register.now) (S.room (S.config register.now)) (D.list directory.now) (D.room (D.config directory.now)) p) }
+{
     add(out, "recast", recast(directory, p))?;
     add(out, "find", find(register, directory, p))
 }
