@@ -10,9 +10,7 @@ use stack::NonZeroInxGenericStack;
 use std::alloc::Allocator;
 
 /// A stack made for no request.
-pub fn made_for_none<U: Copy, A: Allocator>(
-    heap: A,
-) -> Result<HeapStack<U, A>, ReallocationError>
+pub fn made_for_none<U: Copy, A: Allocator>(heap: A) -> Result<HeapStack<U, A>, ReallocationError>
     ensures { IsOk result }
 {
     HeapStack::with_min_capacity(heap, 0)
@@ -31,9 +29,7 @@ pub fn reallocated_to_its_room<U: Copy, A: Allocator>(
 }
 
 /// An emptied stack that gives up its memory.
-pub fn emptied<U: Copy, A: Allocator>(
-    stack: &mut HeapStack<U, A>,
-) -> Result<(), ReallocationError>
+pub fn emptied<U: Copy, A: Allocator>(stack: &mut HeapStack<U, A>) -> Result<(), ReallocationError>
     ensures answer { of_reallocation result ≡ done tt }
     ensures settings { heap_room stack.new ≡ 0 }
 {
