@@ -10,9 +10,10 @@ use arena::drain::Drain;
 use invalidation::{InvalidationOption, InvalidationResult};
 use kinds::{DirectSlot, Ptr, PtrInx};
 use outcome::{
-    ArenaReallocationError, DirectInsertionError, GetDisjointMutError, ReallocationError,
+    ArenaReallocationError, DirectInsertionError, GetDisjointMutError, MaxCapacityReductionError,
+    ReallocationError,
 };
-use stack::NonZeroInxGenericStack;
+use stack::{NonZeroInxGenericStack, SetMaxCapacity};
 use std::alloc::{AllocError, Global};
 
 /// The number of a refusal to make room.
@@ -326,4 +327,17 @@ pub(crate) fn answer<P: Kind, V: Value<P>, S: NonZeroInxGenericStack<Slot = Dire
         write_slots(arena, out)?;
     }
     Ok(())
+}
+
+/// Sets the maximum of an arena whose stack lets it.
+pub(crate) fn limit<P: Kind, V: Copy, S: SetMaxCapacity<Slot = DirectSlot<P::Gen, V>>>(
+    arena: &mut DirectArena<P, V, S>,
+    most: usize,
+    out: &mut String,
+) -> Result<(), AllocError> {
+    out.push_str(match arena.set_max_capacity(most) {
+        Ok(()) => "ok",
+        Err(MaxCapacityReductionError) => "8",
+    })?;
+    write_tail(arena, out)
 }

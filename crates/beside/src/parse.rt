@@ -186,7 +186,7 @@ fn start<P: Kind>(fields: &[&[u8]], least: Least) -> Option<Start<P>> {
 
 /// The arena that a `make` or `makedir` line asks for.
 pub(crate) fn making<'t>(fields: &[&'t [u8]]) -> Option<Making<'t>> {
-    let [verb, name, over, capacity] = fields else {
+    let [verb, name, request @ ..] = fields else {
         return None;
     };
     let of = match *verb {
@@ -197,7 +197,7 @@ pub(crate) fn making<'t>(fields: &[&'t [u8]]) -> Option<Making<'t>> {
     Some(Making {
         name,
         of,
-        request: Request::read(over, capacity)?,
+        request: Request::read(request)?,
     })
 }
 

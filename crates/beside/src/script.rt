@@ -1,15 +1,15 @@
 // A script from its first line to its last: one answer line for each.
 
 use crate::call::{Making, Of};
-use crate::held::{Held, Over, Request};
+use crate::held::{Held, Request};
 use crate::kind::{Kind, Least};
-use crate::one::write_tail;
 use crate::parse::{making, parse};
 use crate::pool::Pool;
 use crate::value::Value;
 use crate::word::{Fault, fields};
 use crate::world::World;
 use arena::DirectArena;
+use heap_stack::HeapStack;
 use kinds::{DirectSlot, Ptr, PtrOf, SeasonGen, SheetInx, ShortInx, Unmarked};
 use limited::LimitedStack;
 use slab_stack::SlabStack;
@@ -49,46 +49,61 @@ fn wanted<P: Kind>(heap: Global, lines: &[&[u8]]) -> Result<SlotsWanted, AllocEr
     Ok(wanted)
 }
 
-// Arenas over these slots.
+// The stacks of arenas.
 type Fixed<'a, P, V> = FixedStack<'a, DirectSlot<<P as Ptr>::Gen, V>>;
 
 type Limited<'a, P, V> = LimitedStack<SlabStack<'a, DirectSlot<<P as Ptr>::Gen, V>>>;
 
-type Lent<'a, P, V> = Held<P, V, Fixed<'a, P, V>, Limited<'a, P, V>>;
+type Heap<P, V> = HeapStack<DirectSlot<<P as Ptr>::Gen, V>, Global>;
+
+type Arena<'a, P, V> = Held<P, V, Fixed<'a, P, V>, Limited<'a, P, V>, Heap<P, V>>;
 
 type Arenas<'t, 'a, P> = World<
     't,
     P,
     Fixed<'a, P, u32>,
     Limited<'a, P, u32>,
+    Heap<P, u32>,
     Fixed<'a, P, P>,
     Limited<'a, P, P>,
+    Heap<P, P>,
 >;
 
-// A new arena and its tail; None where there are too few slots.
-fn make<'a, P: Kind, V: Copy>(
+// A new arena, if there is room for it.
+fn new_arena<'a, P: Kind, V: Copy>(
+    heap: Global,
+    pool: &mut Pool<'a, DirectSlot<P::Gen, V>>,
+    request: Request,
+) -> Option<Arena<'a, P, V>> {
+    let slots = pool.lend(request.slots::<P>())?;
+    match request {
+        Request::Fixed(_) => Some(Held::Fixed(DirectArena::new(FixedStack::new(slots)))),
+        Request::Limited(capacity) => {
+            let slab = SlabStack::with_min_capacity(slots, capacity);
+            Some(Held::Limited(DirectArena::new(LimitedStack::new(slab))))
+        }
+        Request::Heap(None) => Some(Held::Heap(DirectArena::new(HeapStack::new(heap)))),
+        Request::Heap(Some(capacity)) => {
+            let stack = HeapStack::with_min_capacity(heap, capacity).ok()?;
+            Some(Held::Heap(DirectArena::new(stack)))
+        }
+    }
+}
+
+// The same with its tail.
+fn make<'a, P: Kind, V: Value<P>>(
+    heap: Global,
     pool: &mut Pool<'a, DirectSlot<P::Gen, V>>,
     request: Request,
     out: &mut String,
-) -> Result<Option<Lent<'a, P, V>>, AllocError> {
-    let Some(slots) = pool.lend(request.slots::<P>()) else {
+) -> Result<Option<Arena<'a, P, V>>, AllocError> {
+    let Some(arena) = new_arena(heap, pool, request) else {
         out.push_str("7")?;
         return Ok(None);
     };
     out.push_str("ok")?;
-    match request.over {
-        Over::Fixed => {
-            let arena = DirectArena::new(FixedStack::new(slots));
-            write_tail(&arena, out)?;
-            Ok(Some(Held::Fixed(arena)))
-        }
-        Over::Limited => {
-            let slab = SlabStack::with_min_capacity(slots, request.capacity);
-            let arena = DirectArena::new(LimitedStack::new(slab));
-            write_tail(&arena, out)?;
-            Ok(Some(Held::Limited(arena)))
-        }
-    }
+    arena.write_tail(out)?;
+    Ok(Some(arena))
 }
 
 // The slots that the arenas of a section are lent.
@@ -110,6 +125,7 @@ fn lend<'a, P: Kind>(
 
 // Makes an arena; one of that name is replaced.
 fn answer_making<'t, 'a, P: Kind + Value<P>>(
+    heap: Global,
     world: &mut Arenas<'t, 'a, P>,
     pools: &mut Pools<'a, P>,
     making: Making<'t>,
@@ -117,14 +133,14 @@ fn answer_making<'t, 'a, P: Kind + Value<P>>(
 ) -> Result<(), AllocError> {
     match making.of {
         Of::Numbers => {
-            let Some(arena) = make::<P, u32>(&mut pools.numbers, making.request, out)? else {
+            let Some(arena) = make::<P, u32>(heap, &mut pools.numbers, making.request, out)? else {
                 return Ok(());
             };
             world.remove(making.name);
             world.numbers.put(making.name, arena)
         }
         Of::Pointers => {
-            let Some(arena) = make::<P, P>(&mut pools.pointers, making.request, out)? else {
+            let Some(arena) = make::<P, P>(heap, &mut pools.pointers, making.request, out)? else {
                 return Ok(());
             };
             world.remove(making.name);
@@ -144,7 +160,7 @@ fn answer_line<'t, 'a, P: Kind + Value<P>>(
 ) -> Result<(), Fault> {
     let fields = fields(heap, line)?;
     if let Some(making) = making(fields.as_slice()) {
-        return Ok(answer_making(world, pools, making, out)?);
+        return Ok(answer_making(heap, world, pools, making, out)?);
     }
     let call = parse(heap, fields.as_slice(), least)?;
     world.answer(call, out)

@@ -13,9 +13,10 @@ struct Named<
     V: Copy,
     F: NonZeroInxGenericStack<Slot = DirectSlot<P::Gen, V>>,
     L: SetMaxCapacity<Slot = DirectSlot<P::Gen, V>>,
+    H: NonZeroInxGenericStack<Slot = DirectSlot<P::Gen, V>>,
 > {
     name: &'t [u8],
-    held: Held<P, V, F, L>,
+    held: Held<P, V, F, L, H>,
 }
 
 /// The arenas of one kind of value.
@@ -26,8 +27,9 @@ pub struct Shelf<
     V: Copy,
     F: NonZeroInxGenericStack<Slot = DirectSlot<P::Gen, V>>,
     L: SetMaxCapacity<Slot = DirectSlot<P::Gen, V>>,
+    H: NonZeroInxGenericStack<Slot = DirectSlot<P::Gen, V>>,
 > {
-    arenas: Vec<Named<'t, P, V, F, L>>,
+    arenas: Vec<Named<'t, P, V, F, L, H>>,
 }
 
 // The items at two places, which are not the same.
@@ -50,7 +52,8 @@ impl<
     V: Copy,
     F: NonZeroInxGenericStack<Slot = DirectSlot<P::Gen, V>> + Drop,
     L: SetMaxCapacity<Slot = DirectSlot<P::Gen, V>> + Drop,
-> Shelf<'t, P, V, F, L> {
+    H: NonZeroInxGenericStack<Slot = DirectSlot<P::Gen, V>> + Drop,
+> Shelf<'t, P, V, F, L, H> {
     pub(crate) fn new(heap: Global) -> Self {
         Shelf {
             arenas: Vec::new(heap),
@@ -61,7 +64,7 @@ impl<
         self.arenas.iter().position(|named| named.name == name)
     }
 
-    pub(crate) fn get(&mut self, name: &[u8]) -> Option<&mut Held<P, V, F, L>> {
+    pub(crate) fn get(&mut self, name: &[u8]) -> Option<&mut Held<P, V, F, L, H>> {
         let place = self.position(name)?;
         self.arenas.get_mut(place).map(|named| &mut named.held)
     }
@@ -71,7 +74,7 @@ impl<
         &mut self,
         first: &[u8],
         second: &[u8],
-    ) -> Option<(&mut Held<P, V, F, L>, &mut Held<P, V, F, L>)> {
+    ) -> Option<(&mut Held<P, V, F, L, H>, &mut Held<P, V, F, L, H>)> {
         let (i, j) = (self.position(first)?, self.position(second)?);
         let (a, b) = two_of(self.arenas.as_mut_slice(), i, j)?;
         Some((&mut a.held, &mut b.held))
@@ -81,7 +84,11 @@ impl<
         self.arenas.retain(|named| named.name != name);
     }
 
-    pub(crate) fn put(&mut self, name: &'t [u8], held: Held<P, V, F, L>) -> Result<(), AllocError> {
+    pub(crate) fn put(
+        &mut self,
+        name: &'t [u8],
+        held: Held<P, V, F, L, H>,
+    ) -> Result<(), AllocError> {
         self.arenas
             .push(Named { name, held })
             .map_err(AllocError::from)

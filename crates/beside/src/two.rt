@@ -1,5 +1,6 @@
 // Calls on two arenas, and the answers to them.
 
+use crate::call::Two;
 use crate::correction::{Correction, Witness};
 use crate::kind::{Kind, write_pointer};
 use crate::one::{refusal, write_report, write_tail};
@@ -23,7 +24,7 @@ fn write_verdict(
     }
 }
 
-pub(crate) fn clone_from<
+fn clone_from<
     P: Kind,
     V: Value<P>,
     S: NonZeroInxGenericStack<Slot = DirectSlot<P::Gen, V>>,
@@ -43,7 +44,7 @@ pub(crate) fn clone_from<
     Ok(write_tail(arena, out)?)
 }
 
-pub(crate) fn transfer_from<
+fn transfer_from<
     P: Kind,
     V: Value<P>,
     S: NonZeroInxGenericStack<Slot = DirectSlot<P::Gen, V>>,
@@ -112,7 +113,7 @@ where
     }
 }
 
-pub(crate) fn recast_by<
+fn recast_by<
     P: Kind + Value<P>,
     S: NonZeroInxGenericStack<Slot = DirectSlot<P::Gen, P>>,
     D: NonZeroInxGenericStack<Slot = DirectSlot<P::Gen, P>>,
@@ -131,7 +132,7 @@ pub(crate) fn recast_by<
     write_tail(arena, out)
 }
 
-pub(crate) fn join_with<
+fn join_with<
     P: Kind,
     S: NonZeroInxGenericStack<Slot = DirectSlot<P::Gen, P>>,
     D: NonZeroInxGenericStack<Slot = DirectSlot<P::Gen, P>>,
@@ -143,4 +144,44 @@ pub(crate) fn join_with<
     arena.join(directory);
     out.push_str("ok")?;
     write_tail(arena, out)
+}
+
+/// Makes a call on two arenas of one kind of value, and writes the answer to it.
+pub(crate) fn alike<
+    P: Kind,
+    V: Value<P>,
+    S: NonZeroInxGenericStack<Slot = DirectSlot<P::Gen, V>>,
+    T: NonZeroInxGenericStack<Slot = DirectSlot<P::Gen, V>>,
+>(
+    heap: Global,
+    arena: &mut DirectArena<P, V, S>,
+    other: &mut DirectArena<P, V, T>,
+    call: Two<P>,
+    out: &mut String,
+) -> Result<(), Fault> {
+    match call {
+        Two::CloneFrom(d) => clone_from(heap, arena, other, d, out),
+        Two::TransferFrom(generation, d) => transfer_from(heap, arena, other, generation, d, out),
+        _ => Err(Fault::Malformed),
+    }
+}
+
+/// The same of two directories.
+pub(crate) fn directories<
+    P: Kind + Value<P>,
+    S: NonZeroInxGenericStack<Slot = DirectSlot<P::Gen, P>>,
+    T: NonZeroInxGenericStack<Slot = DirectSlot<P::Gen, P>>,
+>(
+    heap: Global,
+    arena: &mut DirectArena<P, P, S>,
+    other: &mut DirectArena<P, P, T>,
+    call: Two<P>,
+    out: &mut String,
+) -> Result<(), Fault> {
+    match call {
+        Two::CompressInto(d) => compress_to(heap, arena, other, d, out),
+        Two::RecastBy => Ok(recast_by(arena, other, out)?),
+        Two::JoinWith => Ok(join_with(arena, other, out)?),
+        _ => alike(heap, arena, other, call, out),
+    }
 }
