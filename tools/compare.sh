@@ -1,13 +1,14 @@
 #!/usr/bin/env bash
 # Compares `beside` with the Rust crate on random calls: tools/compare.sh ORACLE FROM TO CALLS [OPTIONS]
 # ORACLE is a folder with build/oracle and gen.py (docs/BESIDE.md). Each seed from FROM to TO makes a script of so many calls, with
-# the options of gen.py that are given. Prints the first line that differs of each script that does, and at last how many lines were
-# compared, how many scripts differ, and a checksum of the crate's answers. Exits with 1 where a script differs.
+# the options of tools/script.sh that are given. Prints the first line that differs of each script that does, and at last how many
+# lines were compared, how many scripts differ, and a checksum of the crate's answers. Exits with 1 where a script differs.
 set -eu
 oracle=$(cd "${1:?the folder of the oracle}" && pwd)
 from=${2:?the first seed} to=${3:?the last seed} calls=${4:?the calls of a script}
 shift 4
-cd "$(dirname "$0")/../crates/beside"
+tools=$(cd "$(dirname "$0")" && pwd)
+cd "$tools/../crates/beside"
 beside=out/beside
 [[ -x $beside ]] || rt run < /dev/null > /dev/null # builds it
 work=$(mktemp -d)
@@ -15,7 +16,7 @@ trap 'rm -rf "$work"' EXIT
 
 lines=0 differ=0
 for seed in $(seq "$from" "$to"); do
-  python3 "$oracle/gen.py" "$seed" "$calls" --no-heap "$@" > "$work/script"
+  "$tools/script.sh" "$oracle" "$seed" "$calls" "$@" > "$work/script"
   "$oracle/build/oracle" < "$work/script" > "$work/crate"
   "$beside" < "$work/script" > "$work/port" || echo "seed $seed: exit status $?"
   cat "$work/crate" >> "$work/all"

@@ -3,10 +3,11 @@
 # crate's answers. `tools/record.sh ORACLE`: a folder with build/oracle and gen.py, of which docs/BESIDE.md says what they are.
 set -eu
 oracle=$(cd "${1:?the folder of the oracle}" && pwd)
-cd "$(dirname "$0")/../crates/beside"
+tools=$(cd "$(dirname "$0")" && pwd)
+cd "$tools/../crates/beside"
 
-# seed, calls and options of each part; the kinds of an index are short, nz16 and sheet, those of a generation season, season0
-# and unmarked
+# seed, calls and options (of tools/script.sh) of each part; the kinds of an index are short, nz16 and sheet, those of a generation
+# season, season0 and unmarked
 parts() {
   cat << 'END'
 101 500 --inx short --gen season
@@ -18,18 +19,20 @@ parts() {
 107 500 --inx sheet --gen season
 108 500 --inx sheet --gen season0 --running
 109 500 --inx sheet --gen unmarked
-110 400 --inx sheet --gen season --running
-111 400 --inx short --gen season --running
-112 400 --inx short --gen season
+110 300 --inx sheet --gen season --running
+111 300 --inx short --gen season --running
+112 300 --inx short --gen season
 201 200 --inx sheet --gen season --big
 202 200 --inx sheet --gen unmarked --big --running
 203 60 --inx short --gen season --big
+301 150 --heap-only --low --inx short --gen season0 --running
+302 150 --heap-only --low --inx sheet --gen unmarked
 END
 }
 
 parts | while read -r seed calls options; do
   # shellcheck disable=SC2086 # the options are words
-  python3 "$oracle/gen.py" "$seed" "$calls" --no-heap $options
+  "$tools/script.sh" "$oracle" "$seed" "$calls" $options
 done > stdin
 "$oracle/build/oracle" < stdin > stdout
 wc stdin stdout
