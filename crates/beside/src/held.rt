@@ -108,7 +108,7 @@ impl<
     }
 
     /// Makes a call on this arena and another one of the same kind of value.
-    pub(crate) fn answer_with(
+    pub(crate) fn answer_alike(
         &mut self,
         heap: Global,
         other: &mut Self,
@@ -145,7 +145,7 @@ impl<
     }
 
     /// Makes a call on two directories.
-    pub(crate) fn answer_by(
+    pub(crate) fn answer_directories(
         &mut self,
         heap: Global,
         other: &mut Self,

@@ -90,7 +90,7 @@ fn new_arena<'a, P: Kind, V: Copy>(
     }
 }
 
-// The same with its tail.
+// Makes an arena, and writes its tail, or 7.
 fn make<'a, P: Kind, V: Value<P>>(
     heap: Global,
     pool: &mut Pool<'a, DirectSlot<P::Gen, V>>,

@@ -71,10 +71,10 @@ impl<
         out: &mut String,
     ) -> Result<(), Fault> {
         if let Some((a, b)) = self.numbers.pair(first, second) {
-            return a.answer_with(self.heap, b, call, out);
+            return a.answer_alike(self.heap, b, call, out);
         }
         if let Some((a, b)) = self.pointers.pair(first, second) {
-            return a.answer_by(self.heap, b, call, out);
+            return a.answer_directories(self.heap, b, call, out);
         }
         match (self.numbers.get(first), self.pointers.get(second), call) {
             (Some(a), Some(b), Two::CompressInto(d)) => a.compress_to(self.heap, b, d, out),
