@@ -3,14 +3,14 @@
 # ORACLE is a folder with build/oracle and gen.py (docs/BESIDE.md). Each seed from FROM to TO makes a script of so many calls, with
 # the options of tools/script.sh that are given. Prints the first line that differs of each script that does, and at last how many
 # lines were compared, how many scripts differ, and a checksum of the crate's answers. Exits with 1 where a script differs.
-set -eu
+set -euo pipefail
 oracle=$(cd "${1:?the folder of the oracle}" && pwd)
 from=${2:?the first seed} to=${3:?the last seed} calls=${4:?the calls of a script}
 shift 4
 tools=$(cd "$(dirname "$0")" && pwd)
 cd "$tools/../crates/beside"
 beside=out/beside
-[[ -x $beside ]] || rt run < /dev/null > /dev/null # builds it
+rt run < /dev/null > /dev/null 2>&1 # builds it
 work=$(mktemp -d)
 trap 'rm -rf "$work"' EXIT
 
@@ -23,7 +23,7 @@ for seed in $(seq "$from" "$to"); do
   lines=$((lines + $(wc -l < "$work/script")))
   if ! cmp -s "$work/crate" "$work/port"; then
     differ=$((differ + 1))
-    line=$(cmp "$work/crate" "$work/port" 2>&1 | sed -n 's/.*line \([0-9]*\).*/\1/p')
+    line=$({ cmp "$work/crate" "$work/port" 2>&1 || true; } | sed -n 's/.*line \([0-9]*\).*/\1/p')
     echo "seed $seed, line $line: $(sed -n "${line}p" "$work/script")"
     echo "  the crate: $(sed -n "${line}p" "$work/crate" | cut -c1-200)"
     echo "  the port:  $(sed -n "${line}p" "$work/port" | cut -c1-200)"

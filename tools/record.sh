@@ -1,7 +1,7 @@
 #!/usr/bin/env bash
 # Records what the gate replays: crates/beside/stdin, random calls from the seeds below, and crates/beside/stdout, the Rust
 # crate's answers. `tools/record.sh ORACLE`: a folder with build/oracle and gen.py, of which docs/BESIDE.md says what they are.
-set -eu
+set -euo pipefail
 oracle=$(cd "${1:?the folder of the oracle}" && pwd)
 tools=$(cd "$(dirname "$0")" && pwd)
 cd "$tools/../crates/beside"

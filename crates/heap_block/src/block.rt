@@ -1,4 +1,4 @@
-ghost use Rattle.std.specs.Prelude.{◌≡◌, ℕ, ◌<◌, ◌≤◌, true, List, [], length, Some, slice_get, IfOk};
+ghost use Rattle.std.specs.Prelude.{◌≡◌, ℕ, ◌<◌, ◌≤◌, true, false, List, [], length, Some, slice_get, IfOk};
 ghost use Rattle.std.specs.Mem.{type_size};
 ghost use Rattle.heap_block.specs.Written.{written};
 ghost use Rattle.heap_block.specs.Places.{block_owns, block_lends};
@@ -28,13 +28,13 @@ impl<U, A: Allocator> Model for Block<U, A> {
 
 /// Whether a slot takes fewer than 2^31 bytes: then fewer than 2^32 of them fit a block.
 pub fn is_small<U>() -> bool
-    ensures { result ≡ true → type_size U.row < 2147483648 }
+    ensures { (result ≡ true → type_size U.row < 2147483648) × (result ≡ false → 2147483648 ≤ type_size U.row) }
 {
-    size_of::<U>() < 0x8000_0000
+    size_of::<U>() < 2_147_483_648
 }
 
 impl<U, A: Allocator> Block<U, A> {
-    /// No block.
+    /// No block. The allocator is handed in so that the ghost field names it.
     pub fn none(heap: &A) -> Block<U, A>
         ensures { (result.slots ≡ []) × (result.room ≡ 0) × (result.from ≡ heap.now) }
     {
@@ -43,8 +43,8 @@ impl<U, A: Allocator> Block<U, A> {
         Block { start, by }
     }
 
-    /// A block with room for so many slots.
-    pub fn obtain(heap: &A, room: usize) -> Result<Block<U, A>, AllocError>
+    // The same for slots of any type: one that is no plain copy would be lost where it is written over.
+    fn allocate(heap: &A, room: usize) -> Result<Block<U, A>, AllocError>
         requires { (0 < room) × (room < 4294967296) × (type_size U.row < 2147483648) }
         ensures { IfOk result (λ b. (b.slots ≡ []) × (b.room ≡ room) × (b.from ≡ heap.now)) }
     {
@@ -74,7 +74,7 @@ impl<U, A: Allocator> Block<U, A> {
         unsafe { self.start.add(i).write(u) }
     }
 
-    /// Gives the block back.
+    /// Gives the block back; room and allocator are those that it was obtained with.
     pub fn release(self, heap: &A, room: usize)
         requires { (self.room ≡ room) × (self.from ≡ heap.now) }
     {
@@ -82,5 +82,15 @@ impl<U, A: Allocator> Block<U, A> {
         if room != 0 {
             unsafe { heap.deallocate(start as *mut u8, room * size_of::<U>(), align_of::<U>()) };
         }
+    }
+}
+
+impl<U: Copy, A: Allocator> Block<U, A> {
+    /// A block with room for so many slots, which are plain copies: what is written over is not dropped.
+    pub fn obtain(heap: &A, room: usize) -> Result<Block<U, A>, AllocError>
+        requires { (0 < room) × (room < 4294967296) × (type_size U.row < 2147483648) }
+        ensures { IfOk result (λ b. (b.slots ≡ []) × (b.room ≡ room) × (b.from ≡ heap.now)) }
+    {
+        Block::allocate(heap, room)
     }
 }

@@ -63,7 +63,7 @@ abbrev pub held_line : {V : Type 0} → Slots SeasonGen V → ℕ → List ℕ
 held_line s room = line_of (codes "held") (record { verdict = done Nothing; tally = tally_of s room })
 
 -- the lines of where a directory leads a pointer, and of the record there
-abbrev pub lead_lines : Slots SeasonGen ℕ → ℕ → Directory SeasonGen Pointer → ℕ → Pointer → List ℕ
-lead_lines s room d directory_room p =
+abbrev pub recast_and_find_lines : Slots SeasonGen ℕ → ℕ → Directory SeasonGen Pointer → ℕ → Pointer → List ℕ
+recast_and_find_lines s room d directory_room p =
     line_of (codes "recast") (record { verdict = held_answer (recast_by season_alike view d p); tally = tally_of d directory_room })
     ++ line_of (codes "find") (record { verdict = found_answer (led_to season_alike view s d p); tally = tally_of s room })

@@ -1,5 +1,5 @@
 // The calls of a season, over any stack: each makes one call on an arena, and answers for it.
-ghost use Rattle.std.specs.Prelude.{◌≡◌, ◌-◌, min, [], length, nat_lt, IfOk};
+ghost use Rattle.std.specs.Prelude.{◌≡◌, ◌-◌, min, [], length, nat_lt, IfOk, OnErr};
 ghost use Rattle.answers.specs.Refusals.{of_verdict};
 ghost use Rattle.answers.specs.declared.answer.Concerned.TheVariants.{Value, Nothing};
 ghost use Rattle.arena.specs.Answers.{value_answer};
@@ -10,7 +10,7 @@ ghost use Rattle.history.specs.Directories.{Filled, joined_with, recast_by};
 ghost use Rattle.history.specs.Mapped.{kept, records, report};
 ghost use Rattle.history.specs.Slots.{count, trimmed};
 ghost use Rattle.kinds.specs.Kinds.{season_alike};
-ghost use Rattle.outcome.specs.Outcome.{done};
+ghost use Rattle.outcome.specs.Outcome.{done, refused};
 ghost use Rattle.directory.specs.Find.{led_to};
 ghost use Rattle.slots.specs.Inserted.{insert_answer};
 ghost use Rattle.slots.specs.Records.{found};
@@ -103,15 +103,15 @@ pub(crate) fn reserve<V: Copy, S: NonZeroInxGenericStack<Slot = DirectSlot<Seaso
 
 pub(crate) fn limit<V: Copy, S: SetMaxCapacity<Slot = DirectSlot<SeasonGen, V>>>(
     arena: &mut DirectArena<Pointer, V, S>,
-    limit: u32,
+    most: u32,
 ) -> Answer
-    ensures shows { IfOk result.verdict (λ c. c ≡ Value limit) }
-    ensures step { Step season_alike (entry (history.limit limit) (of_verdict result.verdict)) (S.list arena.old) (S.list arena.new) }
-    ensures answer { bare (of_verdict result.verdict) ≡ limit_answer (length (S.list arena.new)) limit }
+    ensures shows { IfOk result.verdict (λ c. c ≡ Value most) }
+    ensures step { Step season_alike (entry (history.limit most) (of_verdict result.verdict)) (S.list arena.old) (S.list arena.new) }
+    ensures answer { bare (of_verdict result.verdict) ≡ limit_answer (length (S.list arena.new)) most }
     ensures held { result.tally ≡ tally_of (S.list arena.new) (S.room (S.config arena.new)) }
 {
-    let verdict = match arena.set_max_capacity(limit as usize) {
-        Ok(()) => Ok(Concerned::Value(limit)),
+    let verdict = match arena.set_max_capacity(most as usize) {
+        Ok(()) => Ok(Concerned::Value(most)),
         Err(error) => Err(Refusal::from(error)),
     };
     Answer {
@@ -156,6 +156,7 @@ pub(crate) fn compress<
     D: NonZeroInxGenericStack<Slot = PointerSlot>,
 >(register: &mut Register<S>, directory: &mut Directory<D>) -> Answer
     ensures shows { IfOk result.verdict (λ c. c ≡ Value (count (S.list register.new))) }
+    ensures refusal { OnErr result.verdict (of_verdict result.verdict ≡ refused 10) }
     ensures step { Step season_alike (entry (history.compress kept) (of_verdict result.verdict)) (S.list register.old) (S.list register.new) }
     ensures filled { Filled season_alike point (went (of_verdict result.verdict)) (report (records (S.list register.old))) (D.list directory.old) (D.list directory.new) }
     ensures held { result.tally ≡ tally_of (S.list register.new) (S.room (S.config register.new)) }
@@ -229,14 +230,14 @@ pub(crate) fn find<
 /// stack, and so it is cleared.
 pub(crate) fn request<S: NonZeroInxGenericStack<Slot = Slot>>(
     register: Register<S>,
-    request: usize,
+    slots: usize,
 ) -> (Register<S>, Answer)
-    ensures grown { S.regrown (S.config register) (length (S.list register)) request (bare (of_verdict result.1.verdict)) (S.config result.0) }
+    ensures grown { S.regrown (S.config register) (length (S.list register)) slots (bare (of_verdict result.1.verdict)) (S.config result.0) }
     ensures slots { S.list result.0 ≡ [] }
     ensures held { result.1.tally ≡ tally_of (S.list result.0) (S.room (S.config result.0)) }
 {
     let mut stack = register.into_stack();
-    let asked = stack.reallocate_min_capacity(request);
+    let asked = stack.reallocate_min_capacity(slots);
     let register = DirectArena::new(stack);
     let verdict = match asked {
         Ok(()) => Ok(Concerned::Nothing),

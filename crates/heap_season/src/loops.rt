@@ -49,7 +49,7 @@ pub(crate) fn fill<S: NonZeroInxGenericStack<Slot = Slot>>(
 }
 
 /// Takes out the records at so many slots, from the first on, each so far from the one before.
-pub(crate) fn thin<S: NonZeroInxGenericStack<Slot = Slot>>(
+pub(crate) fn remove_each<S: NonZeroInxGenericStack<Slot = Slot>>(
     out: &mut String,
     register: &mut Register<S>,
     first: u16,

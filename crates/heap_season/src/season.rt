@@ -1,11 +1,11 @@
 // The three seasons: over the heap, under a limit, and with two directories that are joined.
 ghost use Rattle.std.specs.Prelude.{◌≡◌, ◌++◌, string_bytes, OnOk};
-ghost use Rattle.heap_season.specs.Season.{lead_lines};
+ghost use Rattle.heap_season.specs.Season.{recast_and_find_lines};
 
 use crate::calls::{
     clear, compress, find, held, insert, join, limit, recast, request, reserve, trim,
 };
-use crate::loops::{SEASON, add, fill, thin};
+use crate::loops::{SEASON, add, fill, remove_each};
 use crate::register::{Directory, Pointer, PointerSlot, Register, Slot, pointer};
 use arena::DirectArena;
 use heap_stack::HeapStack;
@@ -40,12 +40,12 @@ fn over_heap(heap: Global, out: &mut String) -> Result<(), AllocError> {
     add(out, "insert", insert(&mut register, pointer(3, SEASON), 30))?;
     fill(out, &mut register, 2000)?;
     add(out, "insert", insert(&mut register, pointer(6000, 2), 1))?;
-    thin(out, &mut register, 9, 9, 666)?;
+    remove_each(out, &mut register, 9, 9, 666)?;
     add(out, "reserve", reserve(&mut register, 65_536))?;
-    pack(out, &mut register, &mut directory)?;
-    lead(out, &register, &directory, pointer(5997, SEASON))?;
-    lead(out, &register, &directory, pointer(5994, SEASON))?;
-    thin(out, &mut register, 1301, 1, 34)?;
+    compress_and_show(out, &mut register, &mut directory)?;
+    recast_and_find(out, &register, &directory, pointer(5997, SEASON))?;
+    recast_and_find(out, &register, &directory, pointer(5994, SEASON))?;
+    remove_each(out, &mut register, 1301, 1, 34)?;
     add(
         out,
         "find",
@@ -71,20 +71,20 @@ fn under_limit(heap: Global, out: &mut String) -> Result<(), AllocError> {
         "insert",
         insert(&mut register, pointer(3001, SEASON), 1),
     )?;
-    thin(out, &mut register, 9, 9, 333)?;
-    thin(out, &mut register, 2901, 3, 34)?;
+    remove_each(out, &mut register, 9, 9, 333)?;
+    remove_each(out, &mut register, 2901, 3, 34)?;
     // the last record is in slot 2895
     add(out, "limit", limit(&mut register, 2000))?;
-    pack(out, &mut register, &mut directory)?;
+    compress_and_show(out, &mut register, &mut directory)?;
     add(out, "limit", limit(&mut directory, 2800))?;
-    pack(out, &mut register, &mut directory)?;
+    compress_and_show(out, &mut register, &mut directory)?;
     add(out, "limit", limit(&mut directory, 2895))?;
-    pack(out, &mut register, &mut directory)?;
-    lead(out, &register, &directory, pointer(2895, SEASON))?;
-    lead(out, &register, &directory, pointer(2898, SEASON))?;
+    compress_and_show(out, &mut register, &mut directory)?;
+    recast_and_find(out, &register, &directory, pointer(2895, SEASON))?;
+    recast_and_find(out, &register, &directory, pointer(2898, SEASON))?;
     add(out, "limit", limit(&mut register, 2000))?;
     add(out, "limit", limit(&mut register, 643))?;
-    thin(out, &mut register, 601, 1, 44)?;
+    remove_each(out, &mut register, 601, 1, 44)?;
     shrink(out, &mut register, 600)?;
     add(out, "reserve", reserve(&mut register, 601))?;
     let_go(out, register)
@@ -96,16 +96,16 @@ fn joined(heap: Global, out: &mut String) -> Result<(), AllocError> {
     let mut first = HeapDirectory::new(HeapStack::new(heap));
     let mut second = HeapDirectory::new(HeapStack::new(heap));
     fill(out, &mut register, 100)?;
-    thin(out, &mut register, 9, 9, 33)?;
-    pack(out, &mut register, &mut first)?;
-    thin(out, &mut register, 2, 2, 33)?;
+    remove_each(out, &mut register, 9, 9, 33)?;
+    compress_and_show(out, &mut register, &mut first)?;
+    remove_each(out, &mut register, 2, 2, 33)?;
     add(out, "insert", insert(&mut register, pointer(500, 2), 5000))?;
-    pack(out, &mut register, &mut second)?;
+    compress_and_show(out, &mut register, &mut second)?;
     add(out, "recast", recast(&first, pointer(300, SEASON)))?;
     add(out, "recast", recast(&second, pointer(67, SEASON)))?;
     add(out, "join", join(&mut first, &second))?;
-    lead(out, &register, &first, pointer(300, SEASON))?;
-    lead(out, &register, &first, pointer(6, SEASON))?;
+    recast_and_find(out, &register, &first, pointer(300, SEASON))?;
+    recast_and_find(out, &register, &first, pointer(6, SEASON))?;
     add(out, "recast", recast(&first, pointer(500, 2)))?;
     add(out, "clear", clear(&mut first))?;
     add(out, "clear", clear(&mut second))?;
@@ -114,7 +114,10 @@ fn joined(heap: Global, out: &mut String) -> Result<(), AllocError> {
 }
 
 // Compresses, and shows what the directory then holds.
-fn pack<S: NonZeroInxGenericStack<Slot = Slot>, D: NonZeroInxGenericStack<Slot = PointerSlot>>(
+fn compress_and_show<
+    S: NonZeroInxGenericStack<Slot = Slot>,
+    D: NonZeroInxGenericStack<Slot = PointerSlot>,
+>(
     out: &mut String,
     register: &mut Register<S>,
     directory: &mut Directory<D>,
@@ -124,13 +127,16 @@ fn pack<S: NonZeroInxGenericStack<Slot = Slot>, D: NonZeroInxGenericStack<Slot =
 }
 
 // Where a pointer leads, and the record there.
-fn lead<S: NonZeroInxGenericStack<Slot = Slot>, D: NonZeroInxGenericStack<Slot = PointerSlot>>(
+fn recast_and_find<
+    S: NonZeroInxGenericStack<Slot = Slot>,
+    D: NonZeroInxGenericStack<Slot = PointerSlot>,
+>(
     out: &mut String,
     register: &Register<S>,
     directory: &Directory<D>,
     p: Pointer,
 ) -> Result<(), AllocError>
-    ensures { OnOk result (string_bytes out.new ≡ string_bytes out.old ++ lead_lines (S.list register.now) (S.room (S.config register.now)) (D.list directory.now) (D.room (D.config directory.now)) p) }
+    ensures { OnOk result (string_bytes out.new ≡ string_bytes out.old ++ recast_and_find_lines (S.list register.now) (S.room (S.config register.now)) (D.list directory.now) (D.room (D.config directory.now)) p) }
 {
     add(out, "recast", recast(directory, p))?;
     add(out, "find", find(register, directory, p))

@@ -8,10 +8,10 @@ use std::alloc::Allocator;
 use std::mem::replace;
 
 // an index has at most 32 bits, and none is 0
-const MOST: usize = 4_294_967_295;
+const MAX_CAPACITY: usize = 4_294_967_295;
 
 // a block has room for as many slots at least
-const LEAST: usize = 4;
+const MIN_CAPACITY: usize = 4;
 
 /// A stack that owns its slots' memory, in one block of its allocator. It has no maximum.
 pub struct HeapStack<U, A: Allocator> {
@@ -21,10 +21,10 @@ pub struct HeapStack<U, A: Allocator> {
     heap: A,
     // the list is the first of the slots that are written
     ghost within: { len ≤ length block.slots },
-    ghost whole: { room ≡ block.room },
+    ghost room_of_block: { room ≡ block.room },
     ghost small: { room < 4294967296 },
     // the block goes back to where it came from
-    ghost from: { block.from ≡ heap },
+    ghost heap_of_block: { block.from ≡ heap },
 }
 
 impl<U, A: Allocator> Drop for HeapStack<U, A> {
@@ -56,7 +56,7 @@ impl<U: Copy, A: Allocator> HeapStack<U, A> {
         }
     }
 
-    /// An empty stack with room for the request at least; 7 where there is no such memory.
+    /// An empty stack with room for the request at least; 7 above 2^32 - 1, and where there is no such memory.
     pub fn with_min_capacity(heap: A, request: usize) -> Result<HeapStack<U, A>, ReallocationError>
         ensures { HeapMade request result }
     {
@@ -66,19 +66,19 @@ impl<U: Copy, A: Allocator> HeapStack<U, A> {
     }
 
     // The capacity for a request. It doubles, as that of a `Vec`, so that few reallocations copy the slots.
-    fn grown(&self, request: usize) -> usize
+    fn capacity_for(&self, request: usize) -> usize
         requires { request ≤ 4294967295 }
         ensures { result ≡ heap_grown self.now.room self.now.len request }
     {
         if request > self.room {
-            return request.max(2 * self.room).max(LEAST).min(MOST);
+            return request.max(2 * self.room).max(MIN_CAPACITY).min(MAX_CAPACITY);
         }
         if request == self.room {
             return request;
         }
         match request.max(self.len) {
             0 => 0,
-            least => least.max(LEAST),
+            least => least.max(MIN_CAPACITY),
         }
     }
 
@@ -90,10 +90,10 @@ impl<U: Copy, A: Allocator> HeapStack<U, A> {
         ensures slots { heap_list self.new ≡ heap_list self.old }
         ensures moved { HeapMoved (heap_room self.old) room (of_reallocation result) (heap_room self.new) }
     {
-        let mut block = obtain(&self.heap, room)?;
-        copy_slots(&self.block, &mut block, self.len);
-        let block = replace(&mut self.block, block);
-        block.release(&self.heap, self.room);
+        let mut moved = block_for(&self.heap, room)?;
+        copy_slots(&self.block, &mut moved, self.len);
+        let old = replace(&mut self.block, moved);
+        old.release(&self.heap, self.room);
         self.room = room;
         Ok(())
     }
@@ -169,10 +169,10 @@ impl<U: Copy, A: Allocator> NonZeroInxGenericStack for HeapStack<U, A> {
     }
 
     fn reallocate_min_capacity(&mut self, r: usize) -> Result<(), ReallocationError> {
-        if r > MOST {
+        if r > MAX_CAPACITY {
             return Err(ReallocationError::AllocError);
         }
-        let room = self.grown(r);
+        let room = self.capacity_for(r);
         if room == self.room {
             return Ok(());
         }
@@ -181,7 +181,7 @@ impl<U: Copy, A: Allocator> NonZeroInxGenericStack for HeapStack<U, A> {
 }
 
 // A block with so much room, or none where there is to be no room.
-fn obtain<U, A: Allocator>(heap: &A, room: usize) -> Result<Block<U, A>, ReallocationError>
+fn block_for<U: Copy, A: Allocator>(heap: &A, room: usize) -> Result<Block<U, A>, ReallocationError>
     requires { room < 4294967296 }
     ensures block { IfOk result (λ b. (b.slots ≡ []) × (b.room ≡ room) × (b.from ≡ heap.now)) }
     ensures fault { IfErr result (λ e. (e ≡ ReallocationError.AllocError) × (0 < room)) }
@@ -206,7 +206,7 @@ fn copy_slots<U: Copy, A: Allocator>(from: &Block<U, A>, to: &mut Block<U, A>, l
     requires room { len ≤ to.old.room }
     ensures slots { to.new.slots ≡ take len from.now.slots }
     ensures room { to.new.room ≡ to.old.room }
-    ensures from { to.new.from ≡ to.old.from }
+    ensures allocator { to.new.from ≡ to.old.from }
 {
     for i in 0..len {
         to.write(i, *from.slot(i));

@@ -33,9 +33,20 @@ mod tests {
         assert!(rt; written_and_read(&rt.alloc()) == Some((7, 6)));
     }
 
+    // Whether a block of 256 MiB is had so many times, each given back before the next.
+    fn obtained_and_released(heap: &Global, times: u32) -> bool {
+        for _ in 0..times {
+            let Ok(block) = Block::<u64, Global>::obtain(heap, 33_554_432) else {
+                return false;
+            };
+            block.release(heap, 33_554_432);
+        }
+        true
+    }
+
+    // What did not go back would fill the 2^47 bytes that a process may address.
     #[test]
-    fn no_block_is_given_back_too(rt: HostRuntime) {
-        let heap = rt.alloc();
-        Block::<u64, Global>::none(&heap).release(&heap, 0);
+    fn memory_goes_back(rt: HostRuntime) {
+        assert!(rt; obtained_and_released(&rt.alloc(), 600_000));
     }
 }

@@ -185,6 +185,38 @@ mod tests {
         assert!(rt; s.get(1) == Some(passage_of(4)) && s.len() == 1);
     }
 
+    #[derive(Clone, Copy, Debug, PartialEq, Eq)]
+    struct Wide {
+        words: [u64; 9],
+    }
+
+    #[test]
+    fn slots_of_many_bytes(rt: HostRuntime) {
+        let mut s = HeapStack::<Wide, Global>::new(rt.alloc());
+        assert!(rt; s.reallocate_min_capacity(3) == Ok(()) && s.capacity() == 4);
+        assert!(rt; s.push_within_capacity(Wide { words: [8; 9] }) == Ok(()));
+        assert!(rt; s.push_within_capacity(Wide { words: [9; 9] }) == Ok(()));
+        assert!(rt; s.get(1) == Some(Wide { words: [8; 9] }) && s.len() == 2);
+        assert!(rt;
+            s.reallocate_min_capacity(7) == Ok(()) && s.pop() == Some(Wide { words: [9; 9] })
+        );
+    }
+
+    // Whether a stack of 256 MiB is had so many times, each let go before the next.
+    fn made_and_let_go(heap: Global, times: u32) -> bool {
+        for _ in 0..times {
+            if Numbers::with_min_capacity(heap, 33_554_432).is_err() {
+                return false;
+            }
+        }
+        true
+    }
+
+    #[test]
+    fn stacks_that_are_let_go_give_their_memory_back(rt: HostRuntime) {
+        assert!(rt; made_and_let_go(rt.alloc(), 600_000));
+    }
+
     #[test]
     fn slots_of_no_bytes(rt: HostRuntime) {
         let mut s = HeapStack::<(), Global>::new(rt.alloc());
@@ -222,7 +254,8 @@ mod tests {
         assert!(rt; s.reallocate_min_capacity(4_294_967_296) == no_memory && counts_up(&s, 8));
     }
 
-    // It passes with and without memory, so that it can be run with an allocation that fails.
+    // It passes with and without memory, so that it can be run with an allocation that fails:
+    // `rt try --test --fail-alloc 2`, where other tests rightly fail.
     #[test]
     fn want_of_memory_changes_nothing(rt: HostRuntime) {
         let mut s = Numbers::new(rt.alloc());

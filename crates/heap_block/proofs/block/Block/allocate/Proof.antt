@@ -41,16 +41,16 @@ use denote.Triple.Table.{framed}
 use denote.Triple.Walked.{Stays, walk_of, stay_dropped, Goes-dropped}
 use Rattle.heap_block.specs.Places.{places}
 use Rattle.heap_block.proofs.Memory.{sz, uncapped, block_ty, block_size, block_align, of_room, block_val, args, P, Br, block_back, made}
-use Rattle.heap_block.specs.contracts.block.Block.obtain as F
-use Rattle.heap_block.specs.contracts.block.Block.obtain.Key.{name as key}
-use Rattle.heap_block.proofs.block.Block.obtain.Statement.{statement}
-use Rattle.heap_block.proofs.block.Block.obtain.Code as code
+use Rattle.heap_block.specs.contracts.block.Block.allocate as F
+use Rattle.heap_block.specs.contracts.block.Block.allocate.Key.{name as key}
+use Rattle.heap_block.proofs.block.Block.allocate.Statement.{statement}
+use Rattle.heap_block.proofs.block.Block.allocate.Code as code
 
 product_fits : (n s : ℕ) → n < 4294967296 → s < 2147483648 → n * s < 2 ^ 63
 product_fits n s few small = let few' : n ≤ 4294967295 = omega arith in let small' : s ≤ 2147483648 = omega arith in lt_of_le_of_lt (mul-le-mul few' small') (lit< tt)
 
-pub obtain_spec : {M : Type 1} → statement M
-obtain_spec 𝓤 𝓛 𝓜 𝓡 wired X W LX LW g d dd met md =
+pub allocate_spec : {M : Type 1} → statement M
+allocate_spec 𝓤 𝓛 𝓜 𝓡 wired X W LX LW g d dd met md =
     let E : El = record { row = X; laws = LX } in let Z : Al = record { row = W; laws = LW; g = g; d = d; drops = dd } in
     let T = F.ended X W g d dd in let c = F.clauses X W g d dd 𝓛 𝓜.mem 𝓡.returns in let function : Fn = inst_fn (args E Z) code.function in
     let 𝓣 : MachineTables 𝓤 𝓛.H 𝓜 = tables 𝓤 𝓛.H 𝓜 𝓡 𝓡.env in
