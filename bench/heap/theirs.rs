@@ -1,4 +1,4 @@
-//! The crate's side: the same work as in `ours.rt`, over the crate's heap stack, with indices of all 16 bits and generations of all 32.
+//! The crate's side: the same work as in `ours.rt.txt`, over the crate's heap stack, with indices of all 16 bits and generations of all 32.
 
 use std::fmt;
 use std::io::Read;
