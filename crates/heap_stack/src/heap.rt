@@ -71,7 +71,10 @@ impl<U: Copy, A: Allocator> HeapStack<U, A> {
         ensures { result ≡ heap_grown self.now.room self.now.len request }
     {
         if request > self.room {
-            return request.max(2 * self.room).max(MIN_CAPACITY).min(MAX_CAPACITY);
+            return request
+                .max(2 * self.room)
+                .max(MIN_CAPACITY)
+                .min(MAX_CAPACITY);
         }
         if request == self.room {
             return request;
