@@ -2,7 +2,6 @@ ghost use Rattle.std.specs.Prelude.{◌≡◌, ◌≤◌, ◌+◌, ℕ, cond, le
 ghost use Rattle.kinds.specs.Places.{in_range};
 ghost use Rattle.directory.specs.Outcomes.{of_directory, carried};
 ghost use Rattle.arena.specs.Outcomes.{of_arena_reallocation, beyond_indices};
-ghost use Rattle.history.specs.Slots.{count};
 ghost use Rattle.history.specs.Mapped.{records, report, shown_by};
 ghost use Rattle.history.specs.Calls.{compress as compression, went, entry, Step};
 ghost use Rattle.history.specs.Directories.{Filled, HoldsAfter};
