@@ -6,10 +6,11 @@ use crate::calls::{
     clear, compress, find, held, insert, join, limit, recast, request, reserve, trim,
 };
 use crate::loops::{SEASON, add, fill, remove_each};
-use crate::register::{Directory, Pointer, PointerSlot, Register, Slot, pointer};
+use crate::register::{Directory, PointerSlot, Register, Slot};
 use arena::DirectArena;
 use heap_stack::HeapStack;
 use limited::LimitedStack;
+use numbering::{Pointer, pointer};
 use stack::NonZeroInxGenericStack;
 use std::alloc::{AllocError, Global};
 
