@@ -4,7 +4,7 @@
 
 #![tactic(auto)]
 
-ghost use Rattle.std.specs.Prelude.{◌≡◌, ◌*◌, ℕ, []};
+ghost use Rattle.std.specs.Prelude.{◌≡◌, ◌+◌, ◌*◌, ℕ, [], min};
 ghost use Rattle.kinds.specs.Places.{or_zero};
 ghost use Rattle.arena.specs.Advance.{record_given, forward, drained};
 ghost use Rattle.arena_tests.specs.Digits.{appended};
@@ -39,7 +39,7 @@ mod tests {
     use kinds::{DirectSlot, Ptr, PtrInx, PtrOf, SeasonGen, SheetInx, ShortInx, Unmarked};
     use limited::LimitedStack;
     use mapper::{AddCorrection, KeepValues, Mapper};
-    use outcome::{ArenaReallocationError, DirectoryError, ReallocationError};
+    use outcome::{ArenaReallocationError, DirectoryError, GetDisjointMutError, ReallocationError};
     use slab_stack::SlabStack;
     use stack::{FixedStack, NonZeroInxGenericStack, SetMaxCapacity};
 
@@ -92,6 +92,28 @@ mod tests {
             self.old = append(self.old, old);
             self.new = append(self.new, new);
             u64::from(value) * 1000
+        }
+    }
+
+    /// Gives each record its number, in the order in which they are shown.
+    #[derive(Drop)]
+    struct Numbering {
+        next: u32,
+    }
+
+    impl Mapper<Short, Short, u32, u32> for Numbering {
+        ghost State = { ℕ };
+
+        ghost state = { λ m. m.next };
+
+        ghost next = { λ n _ _ _. min (n + 1) 4294967295 };
+
+        ghost mapped = { λ n _ _ _. n };
+
+        fn map(&mut self, _old: Short, _new: Short, _value: u32) -> u32 {
+            let number = self.next;
+            self.next = number.saturating_add(1);
+            number
         }
     }
 
@@ -154,6 +176,21 @@ mod tests {
     }
 
     #[test]
+    fn a_mapper_of_ones_own_in_a_list_edit(rt: HostRuntime) {
+        let mut lent = [Slot::Free; 4];
+        let mut a = Register::new(FixedStack::new(&mut lent));
+        let mut numbering = Numbering { next: 100 };
+        assert!(rt; put(&mut a, 1) && put(&mut a, 4));
+        let three = ShortInx { raw: 3 };
+        let twice = Err(GetDisjointMutError::OverlappingIndices);
+        assert!(rt; a.get_disjoint_inx_mut(&[three, three], &mut numbering) == twice);
+        assert!(rt; numbering.next == 100);
+        assert!(rt; a.get_disjoint_mut(&[of(4, 104), of(1, 101)], &mut numbering) == Ok(()));
+        assert!(rt; numbering.next == 102);
+        assert!(rt; a.get(of(4, 104)) == Some(100) && a.get(of(1, 101)) == Some(101));
+    }
+
+    #[test]
     fn an_arena_over_a_slab_that_runs_out(rt: HostRuntime) {
         let mut lent = [Slot::Free; 8];
         let mut source = Register::new(FixedStack::new(&mut lent));
@@ -166,6 +203,11 @@ mod tests {
         assert!(rt; put(&mut source, 6) && a.clone_from_with(&source, &mut trail) == refused);
         assert!(rt; trail.old == 3 && a.slots() == 3 && a.capacity() == 4 && a.len() == 1);
         assert!(rt; a.get(of(3, 103)) == Some(3000));
+        assert!(rt; put(&mut source, 1) && put(&mut source, 2));
+        assert!(rt; put(&mut source, 4) && put(&mut source, 5));
+        let season = SeasonGen { season: 9 };
+        assert!(rt; a.transfer_reallocating(season, &mut source, &mut trail) == refused);
+        assert!(rt; trail.old == 3 && a.len() == 1 && source.len() == 6 && source.slots() == 6);
     }
 
     #[test]
@@ -174,14 +216,17 @@ mod tests {
         let mut lines = [ShortSlot::Free; 6];
         let mut a = Register::new(FixedStack::new(&mut lent));
         let mut d = Directory::new(SlabStack::with_min_capacity(&mut lines, 2));
-        let mut correction = AddCorrection { correction: 3 };
+        let mut correction = AddCorrection {
+            correction: u32::MAX - 4,
+        };
         assert!(rt; put(&mut a, 5) && compress_into(&mut a, &mut d, &mut correction) == Ok(()));
         assert!(rt; d.capacity() == 5 && d.get(of(5, 105)) == Some(of(1, 105)) && put(&mut a, 8));
         let memory = ArenaReallocationError::Stack(ReallocationError::AllocError);
         assert!(rt;
             compress_into(&mut a, &mut d, &mut correction) == Err(DirectoryError::NoRoom(memory))
         );
-        assert!(rt; a.get(of(1, 105)) == Some(8) && a.get(of(8, 108)) == Some(8) && d.len() == 1);
+        assert!(rt; a.get(of(1, 105)) == Some(u32::MAX) && a.get(of(8, 108)) == Some(8));
+        assert!(rt; d.len() == 1);
     }
 
     #[test]
