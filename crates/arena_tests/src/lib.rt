@@ -10,8 +10,8 @@ ghost use Rattle.arena.specs.Advance.{record_given, forward, drained};
 ghost use Rattle.arena_tests.specs.Digits.{appended};
 
 use arena::DirectArena;
-use invalidation::InvalidationOption;
 use kinds::{DirectSlot, Ptr, PtrInx};
+use outcome::InvalidationOption;
 use stack::NonZeroInxGenericStack;
 
 /// Takes out the first record, and then all the others: a drain that ends early. A drain is never let go: `must-fail`
@@ -32,16 +32,18 @@ pub fn take_first<P: Ptr, V: Copy, S: NonZeroInxGenericStack<Slot = DirectSlot<P
 #[cfg(test)]
 mod tests {
     use super::take_first;
-    use arena::DirectArena;
     use arena::advancer::{Advancer, PtrAdvancer};
-    use directory::compress_into;
-    use invalidation::InvalidationOption;
-    use kinds::{DirectSlot, Ptr, PtrInx, PtrOf, SeasonGen, SheetInx, ShortInx, Unmarked};
+    use arena::{ArenaReallocationError, DirectArena};
+    use bulk::GetDisjointMutError;
+    use directory::{DirectoryError, compress_into};
+    use kinds::{DirectSlot, Ptr, PtrInx, PtrOf};
     use limited::LimitedStack;
     use mapper::{AddCorrection, KeepValues, Mapper};
-    use outcome::{ArenaReallocationError, DirectoryError, GetDisjointMutError, ReallocationError};
+    use numbering::{SeasonGen, ShortInx, Unmarked};
+    use outcome::InvalidationOption;
+    use sheets::SheetInx;
     use slab_stack::SlabStack;
-    use stack::{FixedStack, NonZeroInxGenericStack, SetMaxCapacity};
+    use stack::{FixedStack, NonZeroInxGenericStack, ReallocationError, SetMaxCapacity};
 
     type Short = PtrOf<ShortInx, SeasonGen>;
 

@@ -3,7 +3,9 @@ use crate::many::{clone_from, compress, list_edit};
 use crate::recasts::recast;
 use crate::single::{edit, fills, get, insert, remove};
 use crate::walks::walks;
-use kinds::{PtrInx, SheetInx, ShortInx};
+use kinds::PtrInx;
+use numbering::ShortInx;
+use sheets::SheetInx;
 use std::alloc::{AllocError, Global};
 use std::mem::size_of;
 

@@ -1,6 +1,7 @@
 use arena::DirectArena;
 use arena::advancer::Advancer;
-use kinds::{DirectSlot, PtrInx, PtrOf, SeasonGen};
+use kinds::{DirectSlot, PtrInx, PtrOf};
+use numbering::SeasonGen;
 use stack::FixedStack;
 use std::alloc::{AllocError, Global};
 

@@ -1,6 +1,6 @@
 use crate::inputs::{Inputs, Register, Season, contents, fill, free_slots, pointers};
-use invalidation::InvalidationResult;
 use kinds::PtrInx;
+use outcome::InvalidationResult;
 use stack::FixedStack;
 use std::alloc::AllocError;
 

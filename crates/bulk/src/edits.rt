@@ -1,17 +1,17 @@
 ghost use Rattle.std.specs.Prelude.{◌≡◌, ◌≤◌, ℕ, [], length, Option, true};
 ghost use Rattle.std.specs.List.{list_all};
 ghost use Rattle.kinds.specs.Places.{or_zero};
-ghost use Rattle.outcome.specs.Outcome.{of_disjoint};
+ghost use Rattle.bulk.specs.Outcomes.{of_disjoint};
 ghost use Rattle.history.specs.Slots.{at, count, is_held};
 ghost use Rattle.history.specs.Mapped.{records, in_place, those_named, put_all};
 ghost use Rattle.history.specs.Calls.{distinct};
 ghost use Rattle.bulk.specs.Given.{given, left};
 ghost use Rattle.bulk.specs.Edits.{numbers, first_unconverted, scanned, all_held, edits_answer, edited, shown};
 
+use crate::error::GetDisjointMutError;
 use crate::point::point;
 use kinds::{DirectSlot, Ptr, PtrInx};
 use mapper::Mapper;
-use outcome::GetDisjointMutError;
 use slots::{is_vacant, overwrite, record_at};
 use stack::NonZeroInxGenericStack;
 

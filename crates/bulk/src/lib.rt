@@ -7,5 +7,8 @@
 pub mod compress;
 pub mod copy;
 pub mod edits;
+pub mod error;
 pub mod point;
 pub mod recast;
+
+pub use error::GetDisjointMutError;

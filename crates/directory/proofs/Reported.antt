@@ -1,10 +1,10 @@
 -- What a directory takes in at a filling is the report.
 use Rattle.std.proofs.Common.{◌≡◌, ℕ, suc, ◌+◌, ◌<◌, ◌≤◌, Bool, true, false, cond, nat_lt, Result, Ok, Err, List, [], ◌∷◌, length, Some, Option, refl, ap, ◌∙◌, inl, inr, arith}
 use Rattle.kinds.specs.Places.{in_range}
-use Rattle.outcome.specs.Outcome.{of_arena_reallocation, beyond_indices}
-use Rattle.outcome.specs.declared.errors.ReallocationError.TheVariants.{BeyondMaxCapacity, AllocError}
-use Rattle.outcome.specs.declared.errors.ArenaReallocationError.{ArenaReallocationError}
-use Rattle.outcome.specs.declared.errors.ArenaReallocationError.TheVariants.{Stack, BeyondIndices}
+use Rattle.arena.specs.Outcomes.{of_arena_reallocation, beyond_indices}
+use Rattle.stack.specs.declared.error.ReallocationError.TheVariants.{BeyondMaxCapacity, AllocError}
+use Rattle.arena.specs.declared.error.ArenaReallocationError.{ArenaReallocationError}
+use Rattle.arena.specs.declared.error.ArenaReallocationError.TheVariants.{Stack, BeyondIndices}
 use Rattle.history.specs.Slots.{Slots, Ptr, Held}
 use Rattle.history.specs.Mapped.{Pair, stays, moving, pairs, records, rising, report}
 use Rattle.history.specs.Laws.{In}

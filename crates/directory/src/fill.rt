@@ -1,7 +1,7 @@
 ghost use Rattle.std.specs.Prelude.{◌≡◌, ◌≤◌, ◌+◌, ℕ, cond, length, nat_lt};
 ghost use Rattle.kinds.specs.Places.{in_range};
-ghost use Rattle.outcome.specs.Outcome.{of_directory, of_arena_reallocation, beyond_indices, carried};
-ghost use Rattle.history.specs.Slots.{count};
+ghost use Rattle.directory.specs.Outcomes.{of_directory, carried};
+ghost use Rattle.arena.specs.Outcomes.{of_arena_reallocation, beyond_indices};
 ghost use Rattle.history.specs.Mapped.{records, report, shown_by};
 ghost use Rattle.history.specs.Calls.{compress as compression, went, entry, Step};
 ghost use Rattle.history.specs.Directories.{Filled, HoldsAfter};
@@ -10,10 +10,10 @@ ghost use Rattle.bulk.specs.Brought.{last_slot};
 ghost use Rattle.arena.specs.Answers.{cited};
 ghost use Rattle.arena.specs.Reserve.{MadeRoom};
 
-use arena::DirectArena;
+use crate::error::DirectoryError;
+use arena::{ArenaReallocationError, DirectArena};
 use kinds::{DirectSlot, Ptr, PtrInx};
 use mapper::Mapper;
-use outcome::{ArenaReallocationError, DirectoryError};
 use stack::NonZeroInxGenericStack;
 use std::marker::{Model, PhantomData};
 

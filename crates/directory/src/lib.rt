@@ -4,7 +4,9 @@
 
 #![tactic(auto)]
 
+pub mod error;
 pub mod fill;
 pub mod find;
 
+pub use error::DirectoryError;
 pub use fill::compress_into;

@@ -1,7 +1,8 @@
 -- The heap stack: its one setting is the capacity.
 use Rattle.std.specs.Prelude.{◌≡◌, ℕ, ◌*◌, min, max, Bool, true, false, cond, ◌&&◌, not, ◌==◌, List, [], take, Ok, Err, Result, nat_lt}
-use Rattle.outcome.specs.Outcome.{Outcome, done, overflowed, refused, of_reallocation}
-use Rattle.outcome.specs.declared.errors.ReallocationError.{ReallocationError}
+use Rattle.outcome.specs.Outcome.{Outcome, done, overflowed, refused}
+use Rattle.stack.specs.Outcomes.{of_reallocation}
+use Rattle.stack.specs.declared.error.ReallocationError.{ReallocationError}
 use Rattle.heap_stack.specs.declared.heap.HeapStack.{HeapStack}
 
 abbrev pub heap_list : {U A : Type 0} → HeapStack U A → List U

@@ -1,14 +1,10 @@
 ghost use Rattle.std.specs.Prelude.{◌≡◌, ◌≢◌, ℕ, ◌<◌, ◌≤◌, [], length, take, None, IfOk, IfErr};
-ghost use Rattle.outcome.specs.Outcome.{of_reallocation};
+ghost use Rattle.stack.specs.Outcomes.{of_reallocation};
 
 use heap_block::{Block, is_small};
-use outcome::{NotWithinCapacityError, ReallocationError};
-use stack::NonZeroInxGenericStack;
+use stack::{MAX_CAPACITY, NonZeroInxGenericStack, NotWithinCapacityError, ReallocationError};
 use std::alloc::Allocator;
 use std::mem::replace;
-
-// an index has at most 32 bits, and none is 0
-const MAX_CAPACITY: usize = 4_294_967_295;
 
 // a block has room for as many slots at least
 const MIN_CAPACITY: usize = 4;

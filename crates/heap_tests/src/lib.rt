@@ -11,8 +11,10 @@ pub mod never_refused;
 mod tests {
     use heap_stack::HeapStack;
     use limited::LimitedStack;
-    use outcome::{MaxCapacityReductionError, NotWithinCapacityError, ReallocationError};
-    use stack::{NonZeroInxGenericStack, SetMaxCapacity};
+    use stack::{
+        MaxCapacityReductionError, NonZeroInxGenericStack, NotWithinCapacityError,
+        ReallocationError, SetMaxCapacity,
+    };
     use std::alloc::Global;
 
     type Numbers = HeapStack<u64, Global>;

@@ -1,12 +1,12 @@
 // What follows from the contracts of a heap stack for a caller: requests that no allocator is asked for are never refused.
 // A definition that lets them be refused does not prove these.
 ghost use Rattle.std.specs.Prelude.{◌≡◌, IsOk};
-ghost use Rattle.outcome.specs.Outcome.{done, of_reallocation};
+ghost use Rattle.outcome.specs.Outcome.{done};
+ghost use Rattle.stack.specs.Outcomes.{of_reallocation};
 ghost use Rattle.heap_stack.specs.Heap.{heap_list, heap_room};
 
 use heap_stack::HeapStack;
-use outcome::ReallocationError;
-use stack::NonZeroInxGenericStack;
+use stack::{NonZeroInxGenericStack, ReallocationError};
 use std::alloc::Allocator;
 
 /// A stack made for no request.

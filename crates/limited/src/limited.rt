@@ -1,7 +1,9 @@
 ghost use Rattle.std.specs.Prelude.{◌≡◌, ℕ, ◌≤◌, min, [], length, Some};
 
-use outcome::{MaxCapacityReductionError, NotWithinCapacityError, ReallocationError};
-use stack::{NonZeroInxGenericStack, SetMaxCapacity};
+use stack::{
+    MaxCapacityReductionError, NonZeroInxGenericStack, NotWithinCapacityError, ReallocationError,
+    SetMaxCapacity,
+};
 
 /// Any stack, under a limit.
 #[derive(Drop)]

@@ -1,7 +1,7 @@
 ghost use Rattle.std.specs.Prelude.{◌≡◌, Option};
 ghost use Rattle.mapper.specs.Recast.{recast_answer};
 
-use outcome::NotHeldError;
+use crate::error::NotHeldError;
 
 /// Gives other values for values, as a directory gives new pointers for old ones.
 pub trait Recaster<V: Copy> {

@@ -1,12 +1,9 @@
-//! The error types of the calls with their texts, and what every answer means: its values, or a refusal's number.
-//! It uses `invalidation`, whose answers it numbers too, and knows nothing of pointers, slots, stacks or arenas.
-//! A new answer type has its map in `specs/Outcome.antt`, so that what a call refuses is numbered in one place.
+//! What an answer is: done with its values, or refused under a number; and the two kinds of answer of a call on a record.
+//! It uses no other crate of the repository, and knows nothing of pointers, slots, stacks or arenas.
+//! An error stands in the lowest crate that answers it, with its text and the number that it has as an answer.
 
 #![tactic(auto)]
 
-pub mod errors;
+pub mod answer;
 
-pub use errors::{
-    ArenaReallocationError, DirectInsertionError, DirectoryError, GetDisjointMutError,
-    MaxCapacityReductionError, NotHeldError, NotWithinCapacityError, ReallocationError,
-};
+pub use answer::{InvalidationOption, InvalidationResult};

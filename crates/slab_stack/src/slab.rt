@@ -1,10 +1,10 @@
 ghost use Rattle.std.specs.Prelude.{◌≡◌, ℕ, ◌≤◌, min, [], length, take, if◌then◌else◌, None, nat_lt};
-ghost use Rattle.outcome.specs.Outcome.{done, refused, of_reallocation};
+ghost use Rattle.outcome.specs.Outcome.{done, refused};
+ghost use Rattle.stack.specs.Outcomes.{of_reallocation};
 ghost use Rattle.stack.specs.Slots.{counted};
 
-use outcome::{NotWithinCapacityError, ReallocationError};
-use stack::NonZeroInxGenericStack;
 use stack::lent::{pop_slot, push_slot, read_slot, replace_slot, room_of};
+use stack::{NonZeroInxGenericStack, NotWithinCapacityError, ReallocationError};
 
 /// A stack over lent slots whose capacity grows up to their number, and that has no maximum. Slots beyond 2^32 - 1
 /// do not count.

@@ -1,3 +1,5 @@
+pub mod Texts
+pub mod Outcomes
 pub mod Records
 pub mod Found
 pub mod Inserted

@@ -5,9 +5,11 @@
 #![tactic(auto)]
 
 pub mod ends;
+pub mod error;
 pub mod find;
 pub mod write;
 
 pub use ends::{first_record, last_record, pop_free, record_at_or_above, record_at_or_below};
+pub use error::DirectInsertionError;
 pub use find::{Found, find_record, is_vacant, record_at};
 pub use write::{append_record, insert_record, overwrite};

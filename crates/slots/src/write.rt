@@ -1,13 +1,13 @@
 ghost use Rattle.std.specs.Prelude.{◌≡◌, ◌+◌, ◌≤◌, max, true, length, Some};
 ghost use Rattle.kinds.specs.declared.slot.DirectSlot.TheVariants.{Free, Allocated};
 ghost use Rattle.kinds.specs.Places.{slot_at};
-ghost use Rattle.history.specs.Slots.{to, at, count, is_free, is_held, write};
-ghost use Rattle.outcome.specs.Outcome.{of_insertion};
+ghost use Rattle.history.specs.Slots.{to, at, count, is_held, write};
+ghost use Rattle.slots.specs.Outcomes.{of_insertion};
 ghost use Rattle.slots.specs.Records.{taken, filled};
 ghost use Rattle.slots.specs.Inserted.{insert_answer, Inserted};
 
+use crate::error::DirectInsertionError;
 use kinds::DirectSlot;
-use outcome::DirectInsertionError;
 use stack::NonZeroInxGenericStack;
 
 // Adds free slots until there are n.

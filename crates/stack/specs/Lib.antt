@@ -1,3 +1,5 @@
+pub mod Texts
+pub mod Outcomes
 pub mod Slots
 pub mod Laws
 pub mod Fixed

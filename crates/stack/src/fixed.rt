@@ -1,9 +1,9 @@
 ghost use Rattle.std.specs.Prelude.{◌≡◌, ℕ, ◌≤◌, [], length, take, Some};
 ghost use Rattle.stack.specs.Slots.{counted};
 
+use crate::error::{NotWithinCapacityError, ReallocationError};
 use crate::generic::NonZeroInxGenericStack;
 use crate::lent::{pop_slot, push_slot, read_slot, replace_slot, room_of};
-use outcome::{NotWithinCapacityError, ReallocationError};
 
 /// A stack over slots that the caller lends. Those beyond 2^32 - 1 do not count.
 #[derive(Drop)]

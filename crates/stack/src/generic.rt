@@ -1,10 +1,14 @@
 ghost use Rattle.std.specs.Prelude.{◌≡◌, ℕ, List, [], length, if◌then◌else◌, Option, ◌==◌, nat_lt};
-ghost use Rattle.outcome.specs.Outcome.{Outcome, done, refused, of_push, of_reallocation};
+ghost use Rattle.outcome.specs.Outcome.{Outcome, done, refused};
+ghost use Rattle.stack.specs.Outcomes.{of_push, of_reallocation};
 ghost use Rattle.kinds.specs.Places.{slot_at, slot_put};
 ghost use Rattle.stack.specs.Laws.{Laws};
 ghost use Rattle.stack.specs.Slots.{pushed_to, popped_from};
 
-use outcome::{NotWithinCapacityError, ReallocationError};
+use crate::error::{NotWithinCapacityError, ReallocationError};
+
+/// What no capacity exceeds: an index has at most 32 bits, and none is 0.
+pub const MAX_CAPACITY: usize = 4_294_967_295;
 
 /// A list of slots, counted from 1, with a capacity that it never exceeds.
 pub trait NonZeroInxGenericStack {

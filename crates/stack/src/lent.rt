@@ -1,16 +1,15 @@
 ghost use Rattle.std.specs.Prelude.{◌≡◌, ◌≤◌, length, take, if◌then◌else◌, nat_lt};
-ghost use Rattle.outcome.specs.Outcome.{done, refused, of_push};
+ghost use Rattle.outcome.specs.Outcome.{done, refused};
+ghost use Rattle.stack.specs.Outcomes.{of_push};
 ghost use Rattle.kinds.specs.Places.{slot_at, slot_put};
 ghost use Rattle.stack.specs.Slots.{pushed_to, popped_from, counted};
 
-use outcome::NotWithinCapacityError;
+use crate::error::NotWithinCapacityError;
+use crate::generic::MAX_CAPACITY;
 use std::mem::replace;
 
 // Functions over a slice and its length, to which stacks over lent slots hand theirs: a rule of this project, where
 // methods of a struct of the two would do as well. What the slots past the list hold is left free.
-
-// an index has at most 32 bits, and none is 0
-const MOST: usize = 4_294_967_295;
 
 /// The slot at a place of the first `len` slots.
 pub fn read_slot<U: Copy>(slots: &[U], len: usize, n: usize) -> Option<U>
@@ -74,5 +73,5 @@ pub fn pop_slot<U: Copy>(slots: &mut [U], len: &mut usize) -> Option<U>
 pub fn room_of<U>(slots: &[U]) -> usize
     ensures { result ≡ counted (length slots.now) }
 {
-    slots.len().min(MOST)
+    slots.len().min(MAX_CAPACITY)
 }

@@ -1,9 +1,9 @@
 ghost use Rattle.std.specs.Prelude.{◌≡◌, ℕ, length};
-ghost use Rattle.outcome.specs.Outcome.{of_limit};
+ghost use Rattle.stack.specs.Outcomes.{of_limit};
 ghost use Rattle.stack.specs.Limits.{limit_answer, Bounded};
 
+use crate::error::MaxCapacityReductionError;
 use crate::generic::NonZeroInxGenericStack;
-use outcome::MaxCapacityReductionError;
 
 /// A stack whose maximum can be set.
 pub trait SetMaxCapacity: NonZeroInxGenericStack {

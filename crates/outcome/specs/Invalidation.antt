@@ -1,9 +1,9 @@
 -- What the methods of the two kinds of answer give.
 use Rattle.std.specs.Prelude.{Bool, true, false, Some, None, Ok, Err, Option, Result}
-use Rattle.invalidation.specs.declared.answer.InvalidationOption.{InvalidationOption}
-use Rattle.invalidation.specs.declared.answer.InvalidationOption.TheVariants as option
-use Rattle.invalidation.specs.declared.answer.InvalidationResult.{InvalidationResult}
-use Rattle.invalidation.specs.declared.answer.InvalidationResult.TheVariants as result
+use Rattle.outcome.specs.declared.answer.InvalidationOption.{InvalidationOption}
+use Rattle.outcome.specs.declared.answer.InvalidationOption.TheVariants as option
+use Rattle.outcome.specs.declared.answer.InvalidationResult.{InvalidationResult}
+use Rattle.outcome.specs.declared.answer.InvalidationResult.TheVariants as result
 
 abbrev pub succeeded : {T : Type 0} → InvalidationOption T → Bool
 succeeded (option.Success t) = true

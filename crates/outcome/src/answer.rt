@@ -1,5 +1,5 @@
 ghost use Rattle.std.specs.Prelude.{◌≡◌, false};
-ghost use Rattle.invalidation.specs.Invalidation.{succeeded, overflowed_in, value, strictly, flagged, went_well, went_over, went_nowhere, value_in, strictly_in, flagged_in, settled};
+ghost use Rattle.outcome.specs.Invalidation.{succeeded, overflowed_in, value, strictly, flagged, went_well, went_over, went_nowhere, value_in, strictly_in, flagged_in, settled};
 
 // Both enums, and their methods one by one, are the Rust crate's: its names are kept, a rule of this project.
 
