@@ -33,6 +33,7 @@ pub fn take_first<P: Ptr, V: Copy, S: NonZeroInxGenericStack<Slot = DirectSlot<P
 mod tests {
     use super::take_first;
     use arena::advancer::{Advancer, PtrAdvancer};
+    use arena::drain::Drain;
     use arena::{ArenaReallocationError, DirectArena};
     use bulk::GetDisjointMutError;
     use directory::{DirectoryError, compress_into};
@@ -139,6 +140,46 @@ mod tests {
             .is_ok()
     }
 
+    type Room = Result<(), ArenaReallocationError>;
+
+    const NO_SLOT_LENT: Room = Err(ArenaReallocationError::Stack(ReallocationError::AllocError));
+
+    fn copy(a: &mut WideRegister, source: &Register, trail: &mut Trail) -> Room {
+        a.clone_from_with(source, trail)
+    }
+
+    fn report(a: &mut Register, d: &mut Directory, correction: u32) -> Result<(), DirectoryError> {
+        compress_into(a, d, &mut AddCorrection { correction })
+    }
+
+    // the slot of the record that a step takes out; 0 where there is none
+    fn step(drain: &mut Drain<Short>, a: &mut Register) -> u16 {
+        match drain.next(a) {
+            Some(InvalidationOption::Success((p, _))) => p.inx.raw,
+            _ => 0,
+        }
+    }
+
+    fn value_on(book: &Book, sheet: u16, line: u16) -> u64 {
+        book.get(on(sheet, line)).unwrap_or(0)
+    }
+
+    // a record on each line, with its number
+    fn fill(book: &mut Book) {
+        for sheet in 0..40 {
+            for line in 1..=200 {
+                let value = u64::from(sheet) * 200 + u64::from(line);
+                let _ = book.direct_insert_within_capacity(on(sheet, line), value);
+            }
+        }
+    }
+
+    // the records and the slots after it
+    fn compress(book: &mut Book) -> (usize, usize) {
+        let _ = book.compress_with(&mut KeepValues);
+        (book.len(), book.slots())
+    }
+
     #[test]
     fn numbers_without_an_index(rt: HostRuntime) {
         assert!(rt; ShortInx::try_from_usize(0).is_none());
@@ -151,18 +192,26 @@ mod tests {
     fn a_slab_up_to_what_is_lent(rt: HostRuntime) {
         let mut lent = [7_u32; 8];
         let mut slab = SlabStack::with_min_capacity(&mut lent, 3);
-        assert!(rt; slab.test(8) == Ok(()) && slab.test(9) == Err(ReallocationError::AllocError));
-        assert!(rt; slab.capacity() == 3 && slab.max_capacity().is_none());
-        assert!(rt; slab.reallocate_min_capacity(4) == Ok(()) && slab.capacity() == 6);
+        assert!(rt; slab.test(8) == Ok(()));
+        assert!(rt; slab.test(9) == Err(ReallocationError::AllocError));
+        assert!(rt; slab.capacity() == 3);
+        assert!(rt; slab.reallocate_min_capacity(4) == Ok(()));
+        assert!(rt; slab.capacity() == 6);
         assert!(rt; slab.reallocate_min_capacity(9) == Err(ReallocationError::AllocError));
-        assert!(rt; slab.reallocate_min_capacity(0) == Ok(()) && slab.capacity() == 0);
-        let mut limited = LimitedStack::new(SlabStack::with_min_capacity(slab.into_slots(), 3));
-        let pushed = limited.push_within_capacity(9).is_ok();
-        let set = limited.set_max_capacity(1).is_ok();
-        let full = limited.push_within_capacity(9).is_err();
-        let below = limited.set_max_capacity(0).is_err();
-        let slots = limited.into_inner().into_slots();
-        assert!(rt; pushed && set && full && below && slots.len() == 8 && slots[0] == 9);
+        assert!(rt; slab.reallocate_min_capacity(0) == Ok(()));
+        assert!(rt; slab.capacity() == 0);
+    }
+
+    #[test]
+    fn a_limited_slab_gives_its_slots_back(rt: HostRuntime) {
+        let mut lent = [7_u32; 4];
+        let mut stack = LimitedStack::new(SlabStack::with_min_capacity(&mut lent, 3));
+        let pushed = stack.push_within_capacity(9).is_ok();
+        let limited = stack.set_max_capacity(1).is_ok();
+        let full = stack.push_within_capacity(9).is_err();
+        let below = stack.set_max_capacity(0).is_err();
+        let slots = stack.into_inner().into_slots();
+        assert!(rt; pushed && limited && full && below && slots.len() == 4 && slots[0] == 9);
     }
 
     #[test]
@@ -175,6 +224,16 @@ mod tests {
         }
         assert!(rt; lent[0] == Slot::Free);
         assert!(rt; lent[1] == Slot::Allocated(SeasonGen { season: 102 }, 2));
+    }
+
+    #[test]
+    fn which_error_stands_behind_a_refusal(rt: HostRuntime) {
+        let mut lines = [Line::Free; 8];
+        let mut book = Book::new(LimitedStack::new(FixedStack::new(&mut lines)));
+        let beyond = Err(ArenaReallocationError::Stack(ReallocationError::BeyondMaxCapacity));
+        assert!(rt; book.reallocate_min_capacity(8_000) == beyond);
+        let indices = Err(ArenaReallocationError::BeyondIndices);
+        assert!(rt; book.reallocate_min_capacity(8_001) == indices);
     }
 
     #[test]
@@ -199,17 +258,10 @@ mod tests {
         let mut room = [WideSlot::Free; 5];
         let mut a = WideRegister::new(SlabStack::with_min_capacity(&mut room, 2));
         let mut trail = Trail { old: 0, new: 0 };
-        assert!(rt; put(&mut source, 3) && a.clone_from_with(&source, &mut trail) == Ok(()));
-        assert!(rt; trail.old == 3 && trail.new == 3 && a.slots() == 3 && a.capacity() == 4);
-        let refused = Err(ArenaReallocationError::Stack(ReallocationError::AllocError));
-        assert!(rt; put(&mut source, 6) && a.clone_from_with(&source, &mut trail) == refused);
-        assert!(rt; trail.old == 3 && a.slots() == 3 && a.capacity() == 4 && a.len() == 1);
-        assert!(rt; a.get(of(3, 103)) == Some(3000));
-        assert!(rt; put(&mut source, 1) && put(&mut source, 2));
-        assert!(rt; put(&mut source, 4) && put(&mut source, 5));
-        let season = SeasonGen { season: 9 };
-        assert!(rt; a.transfer_reallocating(season, &mut source, &mut trail) == refused);
-        assert!(rt; trail.old == 3 && a.len() == 1 && source.len() == 6 && source.slots() == 6);
+        assert!(rt; put(&mut source, 3) && copy(&mut a, &source, &mut trail) == Ok(()));
+        assert!(rt; trail.old == 3 && trail.new == 3 && a.capacity() == 4);
+        assert!(rt; put(&mut source, 6) && copy(&mut a, &source, &mut trail) == NO_SLOT_LENT);
+        assert!(rt; trail.old == 3 && a.capacity() == 4 && a.get(of(3, 103)) == Some(3000));
     }
 
     #[test]
@@ -218,82 +270,79 @@ mod tests {
         let mut lines = [ShortSlot::Free; 6];
         let mut a = Register::new(FixedStack::new(&mut lent));
         let mut d = Directory::new(SlabStack::with_min_capacity(&mut lines, 2));
-        let mut correction = AddCorrection {
-            correction: u32::MAX - 4,
-        };
-        assert!(rt; put(&mut a, 5) && compress_into(&mut a, &mut d, &mut correction) == Ok(()));
-        assert!(rt; d.capacity() == 5 && d.get(of(5, 105)) == Some(of(1, 105)) && put(&mut a, 8));
-        let memory = ArenaReallocationError::Stack(ReallocationError::AllocError);
-        assert!(rt;
-            compress_into(&mut a, &mut d, &mut correction) == Err(DirectoryError::NoRoom(memory))
-        );
-        assert!(rt; a.get(of(1, 105)) == Some(u32::MAX) && a.get(of(8, 108)) == Some(8));
-        assert!(rt; d.len() == 1);
+        assert!(rt; put(&mut a, 5) && report(&mut a, &mut d, u32::MAX - 4) == Ok(()));
+        assert!(rt; d.capacity() == 5 && a.get(of(1, 105)) == Some(u32::MAX));
+        let no_room = Err(DirectoryError::NoRoom(ArenaReallocationError::Stack(
+            ReallocationError::AllocError,
+        )));
+        assert!(rt; put(&mut a, 8) && report(&mut a, &mut d, 1) == no_room);
+        assert!(rt; a.get(of(8, 108)) == Some(8) && d.len() == 1);
     }
 
     #[test]
     fn transferring_between_kinds(rt: HostRuntime) {
         let mut lent = [Slot::Free; 8];
         let mut source = Register::new(FixedStack::new(&mut lent));
-        assert!(rt; put(&mut source, 2) && put(&mut source, 5) && put(&mut source, 7));
         let mut lines = [Line::Free; 2];
         let mut book = Book::new(LimitedStack::new(FixedStack::new(&mut lines)));
-        let beyond = Err(ArenaReallocationError::Stack(ReallocationError::BeyondMaxCapacity));
-        assert!(rt; book.reallocate_min_capacity(8_000) == beyond);
-        assert!(rt;
-            book.reallocate_min_capacity(8_001) == Err(ArenaReallocationError::BeyondIndices)
-        );
         let mut trail = Trail { old: 0, new: 0 };
-        assert!(rt; book.transfer_reallocating(Unmarked, &mut source, &mut trail) == beyond);
-        assert!(rt; trail.old == 0 && source.remove(of(5, 105)).is_success());
+        assert!(rt; put(&mut source, 2) && put(&mut source, 7));
         assert!(rt; book.transfer_reallocating(Unmarked, &mut source, &mut trail) == Ok(()));
-        assert!(rt; trail.old == 27 && trail.new == 12 && book.slots() == 2 && book.len() == 2);
-        assert!(rt; book.get(on(0, 1)) == Some(2000) && book.get(on(0, 2)) == Some(7000));
-        assert!(rt; source.slots() == 7 && source.is_empty() && source.get(of(2, 102)).is_none());
-        let mut room = [WideSlot::Free; 2];
-        let mut a = WideRegister::new(SlabStack::with_min_capacity(&mut room, 1));
+        assert!(rt; trail.old == 27 && trail.new == 12);
+        assert!(rt; value_on(&book, 0, 1) == 2000 && value_on(&book, 0, 2) == 7000);
+    }
+
+    #[test]
+    fn transferring_back_into_a_slab(rt: HostRuntime) {
+        let mut lines = [Line::Free; 400];
+        let mut book = Book::new(LimitedStack::new(FixedStack::new(&mut lines)));
+        fill(&mut book);
+        let mut room = [WideSlot::Free; 400];
+        let mut a = WideRegister::new(SlabStack::with_min_capacity(&mut room, 100));
         let season = SeasonGen { season: 9 };
         assert!(rt; a.transfer_reallocating(season, &mut book, &mut KeepValues) == Ok(()));
-        assert!(rt; a.len() == 2 && a.get(of(2, 9)) == Some(7000) && book.is_empty());
+        assert!(rt; a.capacity() == 400 && a.get(of(399, 9)) == Some(399));
+        fill(&mut book);
+        let mut small = [WideSlot::Free; 399];
+        let mut b = WideRegister::new(SlabStack::with_min_capacity(&mut small, 100));
+        assert!(rt; b.transfer_reallocating(season, &mut book, &mut KeepValues) == NO_SLOT_LENT);
+        assert!(rt; book.len() == 400 && b.capacity() == 100);
     }
 
     #[test]
     fn compressing_a_whole_book(rt: HostRuntime) {
         let mut lent = [Line::Free; 8000];
-        let mut a = Book::new(LimitedStack::new(FixedStack::new(&mut lent)));
-        for sheet in 0..40 {
-            for line in 1..=200 {
-                let value = u64::from(sheet) * 200 + u64::from(line);
-                let _ = a.direct_insert_within_capacity(on(sheet, line), value);
-            }
-        }
-        assert!(rt; a.compress_with(&mut KeepValues).is_success());
-        assert!(rt; a.len() == 8000 && a.slots() == 8000 && a.get(on(39, 200)) == Some(8000));
-        assert!(rt; a.remove(on(20, 1)).is_success());
-        assert!(rt; a.compress_with(&mut KeepValues).is_success());
-        assert!(rt; a.len() == 7999 && a.slots() == 7999 && a.get(on(39, 199)) == Some(8000));
-        assert!(rt; a.get(on(19, 200)) == Some(4000) && a.get(on(20, 1)) == Some(4002));
+        let mut book = Book::new(LimitedStack::new(FixedStack::new(&mut lent)));
+        fill(&mut book);
+        assert!(rt; compress(&mut book) == (8000, 8000) && value_on(&book, 39, 200) == 8000);
+        assert!(rt; book.remove(on(20, 1)).is_success() && compress(&mut book) == (7999, 7999));
+        assert!(rt; value_on(&book, 39, 199) == 8000 && value_on(&book, 39, 200) == 0);
+        assert!(rt; value_on(&book, 19, 200) == 4000 && value_on(&book, 20, 1) == 4002);
     }
 
     #[test]
     fn an_arena_that_changes_between_the_steps_of_a_drain(rt: HostRuntime) {
         let mut lent = [Slot::Free; 4];
         let mut a = Register::new(FixedStack::new(&mut lent));
-        let mut nothing = <PtrAdvancer<Short> as Advancer<Register>>::empty();
-        assert!(rt; put(&mut a, 2) && nothing.advance(&a).is_none());
+        let before = put(&mut a, 2);
         let mut drain = a.drain();
         let _ = a.clear();
         let inserted = put(&mut a, 3);
-        let third = drain.next(&mut a);
-        let none = drain.next(&mut a);
+        let (third, none) = (step(&mut drain, &mut a), step(&mut drain, &mut a));
         let (len, slots) = (a.len(), a.slots());
         let behind = put(&mut a, 4);
-        let done = drain.finish(&mut a);
-        assert!(rt; inserted && behind && len == 0 && slots == 3 && none.is_none());
-        assert!(rt; third == Some(InvalidationOption::Success((of(3, 103), 3))));
-        assert!(rt; done.is_success() && a.is_empty() && a.slots() == 0);
-        assert!(rt; put(&mut a, 1) && put(&mut a, 3));
+        let _ = drain.finish(&mut a);
+        assert!(rt; before && inserted && third == 3 && none == 0 && behind);
+        assert!(rt; len == 0 && slots == 3 && a.slots() == 0);
+    }
+
+    #[test]
+    fn a_drain_that_ends_early_and_an_empty_advancer(rt: HostRuntime) {
+        let mut lent = [Slot::Free; 4];
+        let mut a = Register::new(FixedStack::new(&mut lent));
+        let mut nothing = <PtrAdvancer<Short> as Advancer<Register>>::empty();
+        assert!(rt; put(&mut a, 1) && put(&mut a, 3) && nothing.advance(&a).is_none());
         assert!(rt; take_first(&mut a) == Some(InvalidationOption::Success((of(1, 101), 1))));
-        assert!(rt; a.is_empty() && a.slots() == 0);
+        assert!(rt; a.slots() == 0);
     }
 }
