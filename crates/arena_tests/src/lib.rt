@@ -33,7 +33,6 @@ pub fn take_first<P: Ptr, V: Copy, S: NonZeroInxGenericStack<Slot = DirectSlot<P
 mod tests {
     use super::take_first;
     use arena::advancer::{Advancer, PtrAdvancer};
-    use arena::drain::Drain;
     use arena::{ArenaReallocationError, DirectArena};
     use bulk::GetDisjointMutError;
     use directory::{DirectoryError, compress_into};
@@ -152,14 +151,6 @@ mod tests {
         compress_into(a, d, &mut AddCorrection { correction })
     }
 
-    // the slot of the record that a step takes out; 0 where there is none
-    fn step(drain: &mut Drain<Short>, a: &mut Register) -> u16 {
-        match drain.next(a) {
-            Some(InvalidationOption::Success((p, _))) => p.inx.raw,
-            _ => 0,
-        }
-    }
-
     fn value_on(book: &Book, sheet: u16, line: u16) -> u64 {
         book.get(on(sheet, line)).unwrap_or(0)
     }
@@ -192,26 +183,18 @@ mod tests {
     fn a_slab_up_to_what_is_lent(rt: HostRuntime) {
         let mut lent = [7_u32; 8];
         let mut slab = SlabStack::with_min_capacity(&mut lent, 3);
-        assert!(rt; slab.test(8) == Ok(()));
-        assert!(rt; slab.test(9) == Err(ReallocationError::AllocError));
+        assert!(rt; slab.test(8) == Ok(()) && slab.test(9) == Err(ReallocationError::AllocError));
         assert!(rt; slab.capacity() == 3);
-        assert!(rt; slab.reallocate_min_capacity(4) == Ok(()));
-        assert!(rt; slab.capacity() == 6);
+        assert!(rt; slab.reallocate_min_capacity(4) == Ok(()) && slab.capacity() == 6);
         assert!(rt; slab.reallocate_min_capacity(9) == Err(ReallocationError::AllocError));
-        assert!(rt; slab.reallocate_min_capacity(0) == Ok(()));
-        assert!(rt; slab.capacity() == 0);
-    }
-
-    #[test]
-    fn a_limited_slab_gives_its_slots_back(rt: HostRuntime) {
-        let mut lent = [7_u32; 4];
-        let mut stack = LimitedStack::new(SlabStack::with_min_capacity(&mut lent, 3));
+        assert!(rt; slab.reallocate_min_capacity(0) == Ok(()) && slab.capacity() == 0);
+        let mut stack = LimitedStack::new(SlabStack::with_min_capacity(slab.into_slots(), 3));
         let pushed = stack.push_within_capacity(9).is_ok();
         let limited = stack.set_max_capacity(1).is_ok();
         let full = stack.push_within_capacity(9).is_err();
         let below = stack.set_max_capacity(0).is_err();
         let slots = stack.into_inner().into_slots();
-        assert!(rt; pushed && limited && full && below && slots.len() == 4 && slots[0] == 9);
+        assert!(rt; pushed && limited && full && below && slots.len() == 8 && slots[0] == 9);
     }
 
     #[test]
@@ -227,28 +210,16 @@ mod tests {
     }
 
     #[test]
-    fn which_error_stands_behind_a_refusal(rt: HostRuntime) {
-        let mut lines = [Line::Free; 8];
-        let mut book = Book::new(LimitedStack::new(FixedStack::new(&mut lines)));
-        let beyond = Err(ArenaReallocationError::Stack(ReallocationError::BeyondMaxCapacity));
-        assert!(rt; book.reallocate_min_capacity(8_000) == beyond);
-        let indices = Err(ArenaReallocationError::BeyondIndices);
-        assert!(rt; book.reallocate_min_capacity(8_001) == indices);
-    }
-
-    #[test]
-    fn a_mapper_of_ones_own_in_a_list_edit(rt: HostRuntime) {
+    fn a_refused_list_edit_shows_its_mapper_nothing(rt: HostRuntime) {
         let mut lent = [Slot::Free; 4];
         let mut a = Register::new(FixedStack::new(&mut lent));
         let mut numbering = Numbering { next: 100 };
         assert!(rt; put(&mut a, 1) && put(&mut a, 4));
-        let three = ShortInx { raw: 3 };
+        let list = [of(4, 104), of(1, 101), of(4, 104)];
         let twice = Err(GetDisjointMutError::OverlappingIndices);
-        assert!(rt; a.get_disjoint_inx_mut(&[three, three], &mut numbering) == twice);
-        assert!(rt; numbering.next == 100);
-        assert!(rt; a.get_disjoint_mut(&[of(4, 104), of(1, 101)], &mut numbering) == Ok(()));
-        assert!(rt; numbering.next == 102);
-        assert!(rt; a.get(of(4, 104)) == Some(100) && a.get(of(1, 101)) == Some(101));
+        assert!(rt; a.get_disjoint_mut(&list, &mut numbering) == twice && numbering.next == 100);
+        assert!(rt; a.get_disjoint_mut(&list[1..], &mut numbering) == Ok(()));
+        assert!(rt; numbering.next == 102 && a.get(of(4, 104)) == Some(101));
     }
 
     #[test]
@@ -290,23 +261,21 @@ mod tests {
         assert!(rt; book.transfer_reallocating(Unmarked, &mut source, &mut trail) == Ok(()));
         assert!(rt; trail.old == 27 && trail.new == 12);
         assert!(rt; value_on(&book, 0, 1) == 2000 && value_on(&book, 0, 2) == 7000);
+        let mut room = [WideSlot::Free; 1];
+        let mut a = WideRegister::new(SlabStack::with_min_capacity(&mut room, 1));
+        let season = SeasonGen { season: 9 };
+        assert!(rt; a.transfer_reallocating(season, &mut book, &mut KeepValues) == NO_SLOT_LENT);
+        assert!(rt; value_on(&book, 0, 2) == 7000);
     }
 
     #[test]
-    fn transferring_back_into_a_slab(rt: HostRuntime) {
-        let mut lines = [Line::Free; 400];
+    fn which_error_stands_behind_a_refusal(rt: HostRuntime) {
+        let mut lines = [Line::Free; 8];
         let mut book = Book::new(LimitedStack::new(FixedStack::new(&mut lines)));
-        fill(&mut book);
-        let mut room = [WideSlot::Free; 400];
-        let mut a = WideRegister::new(SlabStack::with_min_capacity(&mut room, 100));
-        let season = SeasonGen { season: 9 };
-        assert!(rt; a.transfer_reallocating(season, &mut book, &mut KeepValues) == Ok(()));
-        assert!(rt; a.capacity() == 400 && a.get(of(399, 9)) == Some(399));
-        fill(&mut book);
-        let mut small = [WideSlot::Free; 399];
-        let mut b = WideRegister::new(SlabStack::with_min_capacity(&mut small, 100));
-        assert!(rt; b.transfer_reallocating(season, &mut book, &mut KeepValues) == NO_SLOT_LENT);
-        assert!(rt; book.len() == 400 && b.capacity() == 100);
+        let beyond = Err(ArenaReallocationError::Stack(ReallocationError::BeyondMaxCapacity));
+        assert!(rt; book.reallocate_min_capacity(8_000) == beyond);
+        let indices = Err(ArenaReallocationError::BeyondIndices);
+        assert!(rt; book.reallocate_min_capacity(8_001) == indices);
     }
 
     #[test]
@@ -324,24 +293,19 @@ mod tests {
     fn an_arena_that_changes_between_the_steps_of_a_drain(rt: HostRuntime) {
         let mut lent = [Slot::Free; 4];
         let mut a = Register::new(FixedStack::new(&mut lent));
-        let before = put(&mut a, 2);
+        let mut nothing = <PtrAdvancer<Short> as Advancer<Register>>::empty();
+        assert!(rt; put(&mut a, 2) && nothing.advance(&a).is_none());
         let mut drain = a.drain();
         let _ = a.clear();
         let inserted = put(&mut a, 3);
-        let (third, none) = (step(&mut drain, &mut a), step(&mut drain, &mut a));
+        let third = drain.next(&mut a);
+        let none = drain.next(&mut a).is_none();
         let (len, slots) = (a.len(), a.slots());
         let behind = put(&mut a, 4);
         let _ = drain.finish(&mut a);
-        assert!(rt; before && inserted && third == 3 && none == 0 && behind);
-        assert!(rt; len == 0 && slots == 3 && a.slots() == 0);
-    }
-
-    #[test]
-    fn a_drain_that_ends_early_and_an_empty_advancer(rt: HostRuntime) {
-        let mut lent = [Slot::Free; 4];
-        let mut a = Register::new(FixedStack::new(&mut lent));
-        let mut nothing = <PtrAdvancer<Short> as Advancer<Register>>::empty();
-        assert!(rt; put(&mut a, 1) && put(&mut a, 3) && nothing.advance(&a).is_none());
+        assert!(rt; inserted && none && len == 0 && slots == 3 && behind && a.slots() == 0);
+        assert!(rt; third == Some(InvalidationOption::Success((of(3, 103), 3))));
+        assert!(rt; put(&mut a, 1) && put(&mut a, 3));
         assert!(rt; take_first(&mut a) == Some(InvalidationOption::Success((of(1, 101), 1))));
         assert!(rt; a.slots() == 0);
     }
