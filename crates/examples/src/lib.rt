@@ -5,8 +5,8 @@
 #![tactic(auto)]
 
 ghost use Rattle.std.specs.Prelude.{◌≡◌, ℕ};
-ghost use Rattle.kinds.specs.declared.generation.SeasonGen.{SeasonGen};
-ghost use Rattle.kinds.specs.Kinds.{season_alike};
+ghost use Rattle.numbering.specs.declared.generation.SeasonGen.{SeasonGen};
+ghost use Rattle.numbering.specs.Kinds.{season_alike};
 ghost use Rattle.history.specs.Followed.{Followed, Said};
 ghost use Rattle.examples.specs.Worked.{Worked};
 
@@ -25,25 +25,18 @@ pub fn worked_examples() -> usize
 mod tests {
     use arena::DirectArena;
     use directory::compress_into;
-    use kinds::{DirectSlot, PtrOf, SeasonGen, ShortInx};
+    use bulk::GetDisjointMutError;
+    use kinds::DirectSlot;
     use mapper::KeepValues;
-    use outcome::{DirectInsertionError, GetDisjointMutError};
+    use numbering::{Pointer, SeasonGen, ShortInx, pointer as of};
+    use slots::DirectInsertionError;
     use stack::FixedStack;
-
-    type Cited = PtrOf<ShortInx, SeasonGen>;
 
     type Slot = DirectSlot<SeasonGen, u32>;
 
-    type Register<'a> = DirectArena<Cited, u32, FixedStack<'a, Slot>>;
+    type Register<'a> = DirectArena<Pointer, u32, FixedStack<'a, Slot>>;
 
-    type Directory<'a> = DirectArena<Cited, Cited, FixedStack<'a, DirectSlot<SeasonGen, Cited>>>;
-
-    fn of(n: u16, season: u32) -> Cited {
-        PtrOf {
-            inx: ShortInx { raw: n },
-            generation: SeasonGen { season },
-        }
-    }
+    type Directory<'a> = DirectArena<Pointer, Pointer, FixedStack<'a, DirectSlot<SeasonGen, Pointer>>>;
 
     #[test]
     fn insertions_and_a_removal_at_the_ends(rt: HostRuntime) {
@@ -73,7 +66,7 @@ mod tests {
     #[test]
     fn compressions_and_a_trim(rt: HostRuntime) {
         let mut lent = [Slot::Free; 8];
-        let mut lines = [DirectSlot::<SeasonGen, Cited>::Free; 8];
+        let mut lines = [DirectSlot::<SeasonGen, Pointer>::Free; 8];
         let mut a = Register::new(FixedStack::new(&mut lent));
         let mut d = Directory::new(FixedStack::new(&mut lines));
         assert!(rt; a.direct_insert_within_capacity(of(2, 7), 10).is_ok());
@@ -95,8 +88,8 @@ mod tests {
 
     #[test]
     fn a_join_of_two_reports(rt: HostRuntime) {
-        let mut first = [DirectSlot::<SeasonGen, Cited>::Free; 8];
-        let mut second = [DirectSlot::<SeasonGen, Cited>::Free; 8];
+        let mut first = [DirectSlot::<SeasonGen, Pointer>::Free; 8];
+        let mut second = [DirectSlot::<SeasonGen, Pointer>::Free; 8];
         let mut d = Directory::new(FixedStack::new(&mut first));
         let mut e = Directory::new(FixedStack::new(&mut second));
         assert!(rt; d.direct_insert_within_capacity(of(2, 7), of(1, 7)).is_ok());
