@@ -1,6 +1,6 @@
 //! Ten worked examples of the rules, proved as one statement, and run: a fixed stack of 8 with short indices.
 //! It may use every library up to `directory`, and nothing uses it.
-//! An example that shows a rule to a reader stands here; limits and odd cases have test crates of their own.
+//! An example that shows a rule to a reader stands here; limits and odd cases are lines of a script (docs/BESIDE.md).
 
 #![tactic(auto)]
 
