@@ -1,9 +1,9 @@
 -- A list edit's questions, and what it makes of the slots.
-use Rattle.std.proofs.Common.{◌≡◌, ℕ, zero, suc, ◌+◌, ◌<◌, true, false, not, eqb, List, [], ◌∷◌, ◌++◌, ◌&&◌, length, Some, None, Option, refl, arith}
-use Rattle.std.specs.List.{slice_get}
+use Rattle.std.proofs.Common.{◌≡◌, ℕ, zero, suc, ◌+◌, ◌<◌, ◌≤◌, Bool, true, false, not, cond, eqb, List, [], ◌∷◌, ◌++◌, ◌&&◌, length, Some, None, Option, is_some, refl, ap, arith}
+use Rattle.std.specs.List.{slice_get, list_all}
 use Rattle.std.proofs.lemmas.List.Folds.{list_all-map}
 use Rattle.std.proofs.lemmas.Grind.{common_steps}
-use Rattle.std.proofs.lemmas.Option.{gets}
+use Rattle.std.proofs.lemmas.Option.{gets, slice_get_past}
 use Rattle.kinds.specs.declared.slot.DirectSlot.{DirectSlot}
 use Rattle.kinds.specs.declared.slot.DirectSlot.TheVariants.{Allocated}
 use Rattle.history.specs.Slots.{Slots, Held, or_free, at, is_held, held, write}
@@ -13,7 +13,7 @@ use Rattle.slots.specs.Records.{record_in, named}
 use Rattle.slots.proofs.Places.{write_held}
 use Rattle.outcome.specs.Outcome.{Outcome, done, overflowed, refused}
 use Rattle.bulk.specs.Given.{given, left}
-use Rattle.bulk.specs.Edits.{all_held, then_asked, scanned, edits_answer}
+use Rattle.bulk.specs.Edits.{numbers, first_unconverted, all_held, then_asked, scanned, fit, edits_refusal, edits_answer}
 
 pub ruleset mapped_all = (list_all-map)
 
@@ -65,6 +65,51 @@ both_went (refused k) b e = cc
 
 pub accepted : {G V : Type 0} (ns : List ℕ) (s : Slots G V) → went (edits_answer ns s) ≡ true → (all_held ns s ≡ true) × (distinct ns ≡ true)
 accepted ns s e = grind (arith, both_went, scanned_apart (length s) [] ns)
+
+held_within : {G V : Type 0} (n : ℕ) (s : Slots G V) → is_held (at n s) ≡ true → (eqb n 0 ≡ false) × (n ≤ length s)
+held_within zero s h = cc
+held_within (suc i) s h = grind (arith, slice_get_past s i)
+
+-- slots that are allocated are there, and their indices convert
+held_converted : {G V : Type 0} (ns : List ℕ) (s : Slots G V) → all_held ns s ≡ true → is_some (first_unconverted ns) ≡ false
+held_converted [] s h = refl
+held_converted (n ∷ ns) s h = grind (arith, held_within n s, held_converted ns s)
+
+others_push : (before : List ℕ) (n : ℕ) (ns : List ℕ) → list_all (λ m. other_than m before) ns ≡ true → other_than n ns ≡ true → list_all (λ m. other_than m (before ++ n ∷ [])) ns ≡ true
+others_push before n [] h o = refl
+others_push before n (m ∷ ns) h o = grind (arith, other_push m n before, others_push before n ns)
+
+scanned_all : {G V : Type 0} (before ns : List ℕ) (s : Slots G V) → list_all (λ m. other_than m before) ns ≡ true → distinct ns ≡ true → all_held ns s ≡ true → scanned (length s) before ns ≡ done tt
+scanned_all before [] s o d h = refl
+scanned_all before (n ∷ ns) s o d h = grind (arith, held_within n s, others_push before n ns, scanned_all (before ++ n ∷ []) ns s)
+
+none_before : (ns : List ℕ) → list_all (λ m. other_than m []) ns ≡ true
+none_before [] = refl
+none_before (n ∷ ns) = none_before ns
+
+pub fits : {G V : Type 0} (ns : List ℕ) (s : Slots G V) → fit ns s ≡ true → (edits_answer ns s ≡ done tt) × (all_held ns s ≡ true) × (distinct ns ≡ true)
+fits ns s e = grind (arith, held_converted ns s, none_before ns, scanned_all [] ns s)
+
+refused_first : (a b c : Outcome (Unit {0})) → went a ≡ false → then_asked a b ≡ then_asked a c
+refused_first (done u) b c e = cc
+refused_first (overflowed u) b c e = cc
+refused_first (refused k) b c e = refl
+
+after_asked : (b : Bool) (a : Outcome (Unit {0})) → went (cond b (refused 4) (then_asked a (refused 4))) ≡ false
+after_asked true a = refl
+after_asked false (done u) = refl
+after_asked false (overflowed u) = refl
+after_asked false (refused k) = refl
+
+pub refuses : (ns : List ℕ) (slots : ℕ) → went (edits_refusal ns slots) ≡ false
+refuses ns slots = after_asked (is_some (first_unconverted ns)) (scanned slots [] ns)
+
+pub unfit : {G V : Type 0} (ns : List ℕ) (s : Slots G V) → fit ns s ≡ false → edits_answer ns s ≡ edits_refusal ns (length s)
+unfit ns s e = grind (arith, scanned_apart (length s) [] ns, refused_first (scanned (length s) [] ns) (done tt) (refused 4))
+
+pub cite_themselves : (ns : List ℕ) → numbers (λ n. Some n) ns ≡ ns
+cite_themselves [] = refl
+cite_themselves (n ∷ ns) = ap (λ t. n ∷ t) (cite_themselves ns)
 
 module _ {W I G P V : Type 0} (next : W → P → P → V → W) (mapped : W → P → P → V → V) (indexed : ℕ → I) (made : I → G → P) where
   -- what is left to do of a list edit, by the numbers that are left and the mapper's state

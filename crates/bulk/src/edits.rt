@@ -1,4 +1,4 @@
-ghost use Rattle.std.specs.Prelude.{◌≡◌, ◌≤◌, ℕ, [], length, Option, true};
+ghost use Rattle.std.specs.Prelude.{◌≡◌, ◌≤◌, ℕ, [], length, take, Option, Some, true};
 ghost use Rattle.std.specs.List.{list_all};
 ghost use Rattle.kinds.specs.Places.{or_zero};
 ghost use Rattle.bulk.specs.Outcomes.{of_disjoint};
@@ -6,7 +6,7 @@ ghost use Rattle.history.specs.Slots.{at, count, is_held};
 ghost use Rattle.history.specs.Mapped.{records, in_place, those_named, put_all};
 ghost use Rattle.history.specs.Calls.{distinct};
 ghost use Rattle.bulk.specs.Given.{given, left};
-ghost use Rattle.bulk.specs.Edits.{numbers, first_unconverted, scanned, all_held, edits_answer, edited, shown};
+ghost use Rattle.bulk.specs.Edits.{numbers, first_unconverted, scanned, all_held, fit, of_fit, edits_refusal, edits_answer, edited, shown};
 
 use crate::error::GetDisjointMutError;
 use crate::point::point;
@@ -113,23 +113,36 @@ fn all_taken<
     items.iter().all(|item| is_taken(m, by, *item))
 }
 
-// What a list edit asks before it edits anything.
-#[tactic(auto, using(crate::proofs::Cited::mapped_all))]
-fn ask<G: Copy, V: Copy, S: NonZeroInxGenericStack<Slot = DirectSlot<G, V>>, T: Copy, C: Citing<T>>(
-    m: &S,
+// Whether no item cites the slot of another.
+fn apart<T: Copy, C: Citing<T>>(by: C, items: &[T]) -> bool
+    ensures { result ≡ distinct (numbers C.number items.now) }
+{
+    for (place, item) in items.iter().enumerate() {
+        let n = slot_of(by, *item);
+        for later in &items[place + 1..] {
+            if slot_of(by, *later) == n {
+                return false;
+            }
+        }
+    }
+    true
+}
+
+// The answer to a list that cites a slot that is not allocated, or one twice. Kept out of line: it is called seldom.
+#[cold]
+#[inline(never)]
+fn refuse<T: Copy, C: Citing<T>>(
     by: C,
     items: &[T],
+    slots: usize,
 ) -> Result<(), GetDisjointMutError>
-    ensures { of_disjoint result ≡ edits_answer (numbers C.number items.now) (S.list m.now) }
+    ensures { of_disjoint result ≡ edits_refusal (numbers C.number items.now) slots }
 {
     if first_unconverted(by, items).is_some() {
         return Err(GetDisjointMutError::IndexOutOfBounds);
     }
-    scan(by, items, m.len())?;
-    if !all_taken(m, by, items) {
-        return Err(GetDisjointMutError::IndexOutOfBounds);
-    }
-    Ok(())
+    scan(by, items, slots)?;
+    Err(GetDisjointMutError::IndexOutOfBounds)
 }
 
 // Edits the record of each item, in order.
@@ -162,8 +175,107 @@ fn edit_each<
     }
 }
 
+// Edits the records, if each slot is allocated and cited once, and answers whether it did.
+#[tactic(auto, using(crate::proofs::Cited::mapped_all))]
+fn edit_if_fit<
+    P: Ptr,
+    V: Copy,
+    S: NonZeroInxGenericStack<Slot = DirectSlot<P::Gen, V>>,
+    F: Mapper<P, P, V, V>,
+    T: Copy,
+    C: Citing<T>,
+>(m: &mut S, by: C, items: &[T], mapper: &mut F) -> bool
+    requires indexed { length (S.list m.old) ≤ P.Inx.largest }
+    ensures answer { result ≡ fit (numbers C.number items.now) (S.list m.old) }
+    ensures slots { S.list m.new ≡ edited (of_fit result) (numbers C.number items.now) (given F.next F.mapped P.Inx.indexed P.made (F.state mapper.old)) (S.list m.old) }
+    ensures mapper { F.state mapper.new ≡ left F.next F.mapped P.Inx.indexed P.made (F.state mapper.old) (shown (of_fit result) (numbers C.number items.now) (S.list m.old)) }
+    ensures counted { count (S.list m.new) ≡ count (S.list m.old) }
+    ensures long { length (S.list m.new) ≡ length (S.list m.old) }
+    ensures kept { S.config m.new ≡ S.config m.old }
+{
+    if !all_taken(m, by, items) || !apart(by, items) {
+        return false;
+    }
+    edit_each(m, by, items, mapper);
+    true
+}
+
+// Numbers cite slots themselves.
+#[derive(Clone, Copy)]
+struct ByNumber;
+
+impl Citing<usize> for ByNumber {
+    ghost number = { λ n. Some n };
+
+    fn number(self, item: usize) -> Option<usize> {
+        Some(item)
+    }
+}
+
+// The numbers of so few slots are kept.
+const FEW: usize = 8;
+
+// The numbers that a short list's items cite.
+fn numbers_of<T: Copy, C: Citing<T>>(by: C, items: &[T]) -> [usize; FEW]
+    requires { length items.now ≤ 8 }
+    ensures { take (length items.now) result ≡ numbers C.number items.now }
+{
+    let mut numbers = [0; FEW];
+    for (place, item) in items.iter().enumerate() {
+        numbers[place] = slot_of(by, *item);
+    }
+    numbers
+}
+
+// The same for a short list. Its numbers are read once: a slot that is written might be part of the list, for all that
+// the compiler knows, but no part of an array that is made here.
+#[tactic(auto, using(crate::proofs::Cited::cite_themselves))]
+fn edit_few_if_fit<
+    P: Ptr,
+    V: Copy,
+    S: NonZeroInxGenericStack<Slot = DirectSlot<P::Gen, V>>,
+    F: Mapper<P, P, V, V>,
+    T: Copy,
+    C: Citing<T>,
+>(m: &mut S, by: C, items: &[T], mapper: &mut F) -> bool
+    requires indexed { length (S.list m.old) ≤ P.Inx.largest }
+    requires few { length items.now ≤ 8 }
+    ensures answer { result ≡ fit (numbers C.number items.now) (S.list m.old) }
+    ensures slots { S.list m.new ≡ edited (of_fit result) (numbers C.number items.now) (given F.next F.mapped P.Inx.indexed P.made (F.state mapper.old)) (S.list m.old) }
+    ensures mapper { F.state mapper.new ≡ left F.next F.mapped P.Inx.indexed P.made (F.state mapper.old) (shown (of_fit result) (numbers C.number items.now) (S.list m.old)) }
+    ensures counted { count (S.list m.new) ≡ count (S.list m.old) }
+    ensures long { length (S.list m.new) ≡ length (S.list m.old) }
+    ensures kept { S.config m.new ≡ S.config m.old }
+{
+    let numbers = numbers_of(by, items);
+    edit_if_fit(m, ByNumber, &numbers[..items.len()], mapper)
+}
+
+// The same for a list of any length.
+fn edit_any_if_fit<
+    P: Ptr,
+    V: Copy,
+    S: NonZeroInxGenericStack<Slot = DirectSlot<P::Gen, V>>,
+    F: Mapper<P, P, V, V>,
+    T: Copy,
+    C: Citing<T>,
+>(m: &mut S, by: C, items: &[T], mapper: &mut F) -> bool
+    requires indexed { length (S.list m.old) ≤ P.Inx.largest }
+    ensures answer { result ≡ fit (numbers C.number items.now) (S.list m.old) }
+    ensures slots { S.list m.new ≡ edited (of_fit result) (numbers C.number items.now) (given F.next F.mapped P.Inx.indexed P.made (F.state mapper.old)) (S.list m.old) }
+    ensures mapper { F.state mapper.new ≡ left F.next F.mapped P.Inx.indexed P.made (F.state mapper.old) (shown (of_fit result) (numbers C.number items.now) (S.list m.old)) }
+    ensures counted { count (S.list m.new) ≡ count (S.list m.old) }
+    ensures long { length (S.list m.new) ≡ length (S.list m.old) }
+    ensures kept { S.config m.new ≡ S.config m.old }
+{
+    if items.len() > FEW {
+        return edit_if_fit(m, by, items, mapper);
+    }
+    edit_few_if_fit(m, by, items, mapper)
+}
+
 /// Edits the records that a list cites, each by the mapper, in list order; a refused edit shows the mapper nothing.
-#[tactic(auto, using(crate::proofs::Cited::accepted))]
+#[tactic(auto, using(crate::proofs::Cited::fits, crate::proofs::Cited::unfit, crate::proofs::Cited::refuses))]
 pub fn edit_all<
     P: Ptr,
     V: Copy,
@@ -180,7 +292,8 @@ pub fn edit_all<
     ensures long { length (S.list m.new) ≡ length (S.list m.old) }
     ensures kept { S.config m.new ≡ S.config m.old }
 {
-    ask(m, by, items)?;
-    edit_each(m, by, items, mapper);
-    Ok(())
+    if edit_any_if_fit(m, by, items, mapper) {
+        return Ok(());
+    }
+    refuse(by, items, m.len())
 }

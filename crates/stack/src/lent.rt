@@ -26,10 +26,12 @@ pub fn replace_slot<U: Copy>(slots: &mut [U], len: usize, n: usize, u: U) -> Opt
     ensures slots { take len slots.new ≡ slot_put (take len slots.old) n u }
     ensures long { length slots.new ≡ length slots.old }
 {
-    if n == 0 || n > len {
+    // in the steps of `read_slot`, so that who has read a slot asks no more when it replaces it
+    let place = n.checked_sub(1)?;
+    if place >= len {
         return None;
     }
-    Some(replace(&mut slots[n - 1], u))
+    Some(replace(&mut slots[place], u))
 }
 
 /// One slot more behind the first `len`, where they are fewer than `room`; 1 where they are not.
