@@ -1,6 +1,8 @@
 #!/usr/bin/env bash
-# Records what the gate replays: crates/beside/stdin, random calls from the seeds below, and crates/beside/stdout, the Rust
-# crate's answers. `tools/record.sh ORACLE`: a folder with build/oracle and gen.py, of which docs/BESIDE.md says what they are.
+# Records what the gate replays: crates/beside/stdin, random calls from the seeds below with the examples behind them, and
+# crates/beside/stdout, the Rust crate's answers. `tools/record.sh ORACLE`: a folder with build/oracle and gen.py, of which
+# docs/BESIDE.md says what they are. It writes neither file where the crate answers an example otherwise than examples/answers,
+# which was written by hand.
 set -euo pipefail
 oracle=$(cd "${1:?the folder of the oracle}" && pwd)
 tools=$(cd "$(dirname "$0")" && pwd)
@@ -30,9 +32,18 @@ parts() {
 END
 }
 
+work=$(mktemp -d)
+trap 'rm -rf "$work"' EXIT
 parts | while read -r seed calls options; do
   # shellcheck disable=SC2086 # the options are words
   "$tools/script.sh" "$oracle" "$seed" "$calls" $options
-done > stdin
-"$oracle/build/oracle" < stdin > stdout
+done > "$work/stdin"
+# Behind, since the answer to a bad line has its number.
+cat examples/calls >> "$work/stdin"
+"$oracle/build/oracle" < "$work/stdin" > "$work/stdout"
+if ! diff examples/answers <(tail -n "$(wc -l < examples/calls)" "$work/stdout") >&2; then
+  echo 'the crate answers examples otherwise than they were written by hand' >&2
+  exit 1
+fi
+cp "$work/stdin" "$work/stdout" .
 wc stdin stdout

@@ -1,12 +1,19 @@
 // Why a call was refused, and the number that is printed for it.
 ghost use Rattle.std.specs.Prelude.{◌≡◌, Some, Err, decimal};
-ghost use Rattle.answers.specs.Refusals.{number_of};
-ghost use Rattle.outcome.specs.Outcome.{refused, of_insertion, of_arena_reallocation, of_limit, of_directory, of_recast};
+ghost use Rattle.answers.specs.Refusals.{number_of, line_number};
+ghost use Rattle.outcome.specs.Outcome.{refused};
+ghost use Rattle.stack.specs.Outcomes.{of_limit};
+ghost use Rattle.slots.specs.Outcomes.{of_insertion};
+ghost use Rattle.mapper.specs.Outcomes.{of_recast};
+ghost use Rattle.arena.specs.Outcomes.{of_arena_reallocation};
+ghost use Rattle.directory.specs.Outcomes.{of_directory};
 
-use outcome::{
-    ArenaReallocationError, DirectInsertionError, DirectoryError, MaxCapacityReductionError,
-    NotHeldError, ReallocationError,
-};
+use arena::ArenaReallocationError;
+use directory::DirectoryError;
+use lines::error::LineError;
+use mapper::NotHeldError;
+use slots::DirectInsertionError;
+use stack::{MaxCapacityReductionError, ReallocationError};
 use std::fmt;
 
 /// Why a call was refused. No report shows 4 or 5: a script asks for no list edit. The register's own shows no 10
@@ -91,5 +98,16 @@ impl<V: Drop> From<NotHeldError<V>> for Refusal {
 
     fn from(_error: NotHeldError<V>) -> Self {
         Refusal::NotHeld
+    }
+}
+
+impl From<LineError> for Refusal {
+    ghost from_gives = { λ e r. number_of r ≡ line_number e };
+
+    fn from(error: LineError) -> Self {
+        match error {
+            LineError::Unknown => Refusal::UnknownCall,
+            LineError::Unfit => Refusal::UnfitField,
+        }
     }
 }

@@ -227,32 +227,10 @@ fn numbers_of<T: Copy, C: Citing<T>>(by: C, items: &[T]) -> [usize; FEW]
     numbers
 }
 
-// The same for a short list. Its numbers are read once: a slot that is written might be part of the list, for all that
-// the compiler knows, but no part of an array that is made here.
+// The same. The numbers of a short list are read once: a slot that is written might be part of the list, for all that the
+// compiler knows, but no part of an array that is made here.
 #[tactic(auto, using(crate::proofs::Cited::cite_themselves))]
-fn edit_few_if_fit<
-    P: Ptr,
-    V: Copy,
-    S: NonZeroInxGenericStack<Slot = DirectSlot<P::Gen, V>>,
-    F: Mapper<P, P, V, V>,
-    T: Copy,
-    C: Citing<T>,
->(m: &mut S, by: C, items: &[T], mapper: &mut F) -> bool
-    requires indexed { length (S.list m.old) ≤ P.Inx.largest }
-    requires few { length items.now ≤ 8 }
-    ensures answer { result ≡ fit (numbers C.number items.now) (S.list m.old) }
-    ensures slots { S.list m.new ≡ edited (of_fit result) (numbers C.number items.now) (given F.next F.mapped P.Inx.indexed P.made (F.state mapper.old)) (S.list m.old) }
-    ensures mapper { F.state mapper.new ≡ left F.next F.mapped P.Inx.indexed P.made (F.state mapper.old) (shown (of_fit result) (numbers C.number items.now) (S.list m.old)) }
-    ensures counted { count (S.list m.new) ≡ count (S.list m.old) }
-    ensures long { length (S.list m.new) ≡ length (S.list m.old) }
-    ensures kept { S.config m.new ≡ S.config m.old }
-{
-    let numbers = numbers_of(by, items);
-    edit_if_fit(m, ByNumber, &numbers[..items.len()], mapper)
-}
-
-// The same for a list of any length.
-fn edit_any_if_fit<
+fn edit_by_numbers_if_fit<
     P: Ptr,
     V: Copy,
     S: NonZeroInxGenericStack<Slot = DirectSlot<P::Gen, V>>,
@@ -271,7 +249,8 @@ fn edit_any_if_fit<
     if items.len() > FEW {
         return edit_if_fit(m, by, items, mapper);
     }
-    edit_few_if_fit(m, by, items, mapper)
+    let numbers = numbers_of(by, items);
+    edit_if_fit(m, ByNumber, &numbers[..items.len()], mapper)
 }
 
 /// Edits the records that a list cites, each by the mapper, in list order; a refused edit shows the mapper nothing.
@@ -292,7 +271,7 @@ pub fn edit_all<
     ensures long { length (S.list m.new) ≡ length (S.list m.old) }
     ensures kept { S.config m.new ≡ S.config m.old }
 {
-    if edit_any_if_fit(m, by, items, mapper) {
+    if edit_by_numbers_if_fit(m, by, items, mapper) {
         return Ok(());
     }
     refuse(by, items, m.len())

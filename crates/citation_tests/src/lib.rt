@@ -39,6 +39,19 @@ mod tests {
         Ok(out.as_bytes() == expected)
     }
 
+    // Lines, and what is written of them.
+    type Case = (&'static [u8], &'static [u8]);
+
+    // The place of the first case of which something else is written.
+    fn first_wrong(heap: Global, cases: &[Case]) -> Result<Option<usize>, AllocError> {
+        for (place, (lines, expected)) in cases.iter().enumerate() {
+            if !gives(heap, lines, expected)? {
+                return Ok(Some(place));
+            }
+        }
+        Ok(None)
+    }
+
     // The names and then empty lines, so long in all.
     fn padded(heap: Global, long: usize) -> Result<Vec<u8>, AllocError> {
         let mut input = NAMES.to_vec(heap)?;
@@ -81,55 +94,48 @@ mod tests {
         Ok(())
     }
 
+    const BAD_LINES: [Case; 2] = [
+        (
+            b"get 1 x -\ntrim - - 1\nclear - - -\nrecast - - -\ncite 1 1\n",
+            b"line 2: refused, 12\nline 3: refused, 12\nline 4: refused, 12\nline 5: refused, 12\nline 6: refused, 12\ncompressions 0, records 0\n",
+        ),
+        (
+            b"cite 1 1 1\ncite - 1 -\ncite 65536 1 -\ncite 1 01 -\ncompress - - 0\n",
+            b"line 2: refused, 13\nline 3: refused, 13\nline 4: refused, 13\nline 5: refused, 13\nline 6: refused, 13\ncompressions 0, records 0\n",
+        ),
+    ];
+
     #[test]
     fn bad_lines(rt: HostRuntime) -> Result<(), Fail> {
-        let heap = rt.alloc();
-        assert!(rt;
-            gives(
-                heap,
-                b"get 1 x -\ntrim - - 1\nclear - - -\nrecast - - -\ncite 1 1\n",
-                b"line 2: refused, 12\nline 3: refused, 12\nline 4: refused, 12\nline 5: refused, 12\nline 6: refused, 12\ncompressions 0, records 0\n",
-            )?
-        );
-        assert!(rt;
-            gives(
-                heap,
-                b"cite 1 1 1\ncite - 1 -\ncite 65536 1 -\ncite 1 01 -\ncompress - - 0\n",
-                b"line 2: refused, 13\nline 3: refused, 13\nline 4: refused, 13\nline 5: refused, 13\nline 6: refused, 13\ncompressions 0, records 0\n",
-            )?
-        );
+        assert!(rt; first_wrong(rt.alloc(), &BAD_LINES)?.is_none());
         Ok(())
     }
+
+    const REFUSED_CALLS: [Case; 1] = [(
+        b"insert 256 1 7\ninsert 257 1 7\ninsert 0 1 7\ninsert 256 2 7\nremove 256 2 -\nedit 255 1 8\ncite 0 1 -\ncite 256 2 -\n",
+        b"line 3: refused, 1\nline 4: refused, 1\nline 5: refused, 2\nline 6: refused, 3\nline 7: refused, 3\nline 8: refused, 3\nline 9: refused, 3\ncompressions 0, records 1\n",
+    )];
 
     #[test]
     fn refused_calls(rt: HostRuntime) -> Result<(), Fail> {
-        assert!(rt;
-            gives(
-                rt.alloc(),
-                b"insert 256 1 7\ninsert 257 1 7\ninsert 0 1 7\ninsert 256 2 7\nremove 256 2 -\nedit 255 1 8\ncite 0 1 -\ncite 256 2 -\n",
-                b"line 3: refused, 1\nline 4: refused, 1\nline 5: refused, 2\nline 6: refused, 3\nline 7: refused, 3\nline 8: refused, 3\nline 9: refused, 3\ncompressions 0, records 1\n",
-            )?
-        );
+        assert!(rt; first_wrong(rt.alloc(), &REFUSED_CALLS)?.is_none());
         Ok(())
     }
 
+    const NO_COMPRESSION_AFTER_A_CITATION: [Case; 2] = [
+        (
+            b"insert 9 1 640\ncompress - - -\ncite 1 1 -\nedit 1 1 641\n",
+            b"compressions 1, records 1\nline 4 cites 1 1\ntoday: 1 1 value 641\n",
+        ),
+        (
+            b"insert 9 1 640\ncite 9 1 -\nremove 9 1 -\n",
+            b"compressions 0, records 0\nline 3 cites 9 1\ntoday: 9 1 is no longer there\n",
+        ),
+    ];
+
     #[test]
     fn no_compression_after_a_citation(rt: HostRuntime) -> Result<(), Fail> {
-        let heap = rt.alloc();
-        assert!(rt;
-            gives(
-                heap,
-                b"insert 9 1 640\ncompress - - -\ncite 1 1 -\nedit 1 1 641\n",
-                b"compressions 1, records 1\nline 4 cites 1 1\ntoday: 1 1 value 641\n",
-            )?
-        );
-        assert!(rt;
-            gives(
-                heap,
-                b"insert 9 1 640\ncite 9 1 -\nremove 9 1 -\n",
-                b"compressions 0, records 0\nline 3 cites 9 1\ntoday: 9 1 is no longer there\n",
-            )?
-        );
+        assert!(rt; first_wrong(rt.alloc(), &NO_COMPRESSION_AFTER_A_CITATION)?.is_none());
         Ok(())
     }
 

@@ -11,9 +11,9 @@ use Rattle.history.specs.Laws.{In}
 use Rattle.history.specs.Calls.{bring, went, Step, Through}
 use Rattle.history.specs.Directories.{Holds, filling, Filled, HoldsAfter, report_records, filled_slots}
 use Rattle.history.proofs.Fills.{filling_leads, filling_holds}
+use Rattle.history.proofs.Moves.{records_rise}
 use Rattle.bulk.specs.Given.{point}
 use Rattle.bulk.specs.Brought.{brought, last_slot}
-use Rattle.bulk.proofs.Brought.{records_rise}
 use Rattle.arena.specs.Answers.{cited}
 
 module _ {G U : Type 0} where

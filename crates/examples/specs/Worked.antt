@@ -1,10 +1,9 @@
 -- Examples of the rules, for a fixed stack of 8 and short indices: of the definitions that the contracts cite.
-use Rattle.std.specs.Prelude.{◌≡◌, ℕ, ◌-◌, min, true, [], ◌∷◌, length}
+use Rattle.std.specs.Prelude.{◌≡◌, ℕ, ◌-◌, min, [], ◌∷◌, length}
 use Rattle.kinds.specs.declared.slot.DirectSlot.TheVariants.{Free, Allocated}
-use Rattle.kinds.specs.declared.generation.SeasonGen.{SeasonGen}
-use Rattle.kinds.specs.declared.index.ShortInx.{ShortInx}
-use Rattle.kinds.specs.declared.pointer.PtrOf.{PtrOf}
-use Rattle.kinds.specs.Kinds.{short_number, season_alike}
+use Rattle.numbering.specs.declared.generation.SeasonGen.{SeasonGen}
+use Rattle.numbering.specs.Kinds.{short_number, season_alike}
+use Rattle.numbering.specs.Pointers.{Pointer, pointer}
 use Rattle.outcome.specs.Outcome.{done, refused}
 use Rattle.stack.specs.Slots.{counted}
 use Rattle.history.specs.Slots.{Slots, Ptr, to, trimmed}
@@ -14,13 +13,6 @@ use Rattle.history.specs.Directories.{Holds, joined_with, filled_slots}
 use Rattle.slots.specs.Inserted.{insert_answer}
 use Rattle.bulk.specs.Edits.{edits_answer}
 use Rattle.arena.specs.Answers.{cited}
-
-abbrev pub Pointer : Type 0
-Pointer = PtrOf ShortInx SeasonGen
-
--- the pointer of a slot's number and a season
-abbrev pub pointer : ℕ → SeasonGen → Pointer
-pointer n g = record { inx = record { raw = n }; generation = g }
 
 abbrev pub view : Pointer → Ptr SeasonGen
 view p = cited short_number (λ q. q.inx) (λ q. q.generation) p

@@ -8,14 +8,10 @@ use Rattle.arena.specs.Answers.{cited}
 use Rattle.directory.specs.Find.{led_to}
 use Rattle.history.specs.Directories.{Directory, recast_by}
 use Rattle.history.specs.Slots.{Slots, Ptr, count}
-use Rattle.kinds.specs.Kinds.{short_number, season_alike}
-use Rattle.kinds.specs.declared.generation.SeasonGen.{SeasonGen}
-use Rattle.kinds.specs.declared.index.ShortInx.{ShortInx}
-use Rattle.kinds.specs.declared.pointer.PtrOf.{PtrOf}
+use Rattle.numbering.specs.Kinds.{short_number, season_alike}
+use Rattle.numbering.specs.declared.generation.SeasonGen.{SeasonGen}
+use Rattle.numbering.specs.Pointers.{Pointer, pointer}
 use Rattle.outcome.specs.Outcome.{Outcome, done, overflowed, refused}
-
-abbrev pub Pointer : Type 0
-Pointer = PtrOf ShortInx SeasonGen
 
 -- a pointer as its index's number and its season
 abbrev pub view : Pointer → Ptr SeasonGen
@@ -52,7 +48,7 @@ found_answer (Some x) = done (record_at x.0 x.1)
 
 -- the pointer of a number and a season
 abbrev pub point : Ptr SeasonGen → Pointer
-point p = record { inx = record { raw = p.slot }; generation = p.gen }
+point p = pointer p.slot p.gen
 
 -- the line of an answer, behind the name of its call
 abbrev pub line_of : List ℕ → Reply → List ℕ

@@ -9,7 +9,7 @@ ghost use Rattle.history.specs.Calls.{entry, went, pointer as by_pointer, Step};
 ghost use Rattle.history.specs.Directories.{Filled, joined_with, recast_by};
 ghost use Rattle.history.specs.Mapped.{kept, records, report};
 ghost use Rattle.history.specs.Slots.{count, trimmed};
-ghost use Rattle.kinds.specs.Kinds.{season_alike};
+ghost use Rattle.numbering.specs.Kinds.{season_alike};
 ghost use Rattle.outcome.specs.Outcome.{done, refused};
 ghost use Rattle.directory.specs.Find.{led_to};
 ghost use Rattle.slots.specs.Inserted.{insert_answer};
@@ -17,15 +17,15 @@ ghost use Rattle.slots.specs.Records.{found};
 ghost use Rattle.stack.specs.Limits.{limit_answer};
 ghost use Rattle.heap_season.specs.Season.{view, point, tally_of, record_at, shown, bare, held_answer, found_answer};
 
-use crate::register::{Directory, Pointer, PointerSlot, Register, Slot, record_at, tally};
+use crate::register::{Directory, PointerSlot, Register, Slot, record_at, tally};
 use answers::answer::{Answer, Concerned};
 use answers::refusal::Refusal;
-use arena::DirectArena;
+use arena::{ArenaReallocationError, DirectArena};
 use directory::compress_into;
 use directory::find::find as find_through;
-use kinds::{DirectSlot, SeasonGen};
+use kinds::DirectSlot;
 use mapper::{KeepValues, Recaster};
-use outcome::ArenaReallocationError;
+use numbering::{Pointer, SeasonGen};
 use stack::{NonZeroInxGenericStack, SetMaxCapacity};
 
 /// What is held, with no call.

@@ -4,9 +4,10 @@ ghost use Rattle.answers.specs.Shown.{reply_of};
 ghost use Rattle.heap_season.specs.Season.{line_of, held_line};
 
 use crate::calls::{held, insert, remove, reserve};
-use crate::register::{Register, Slot, pointer};
+use crate::register::{Register, Slot};
 use answers::answer::Answer;
 use answers::write::add_line;
+use numbering::pointer;
 use stack::NonZeroInxGenericStack;
 use std::alloc::AllocError;
 

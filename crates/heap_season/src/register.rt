@@ -4,10 +4,9 @@ ghost use Rattle.heap_season.specs.Season.{record_at, tally_of};
 
 use answers::answer::{Concerned, Tally};
 use arena::DirectArena;
-use kinds::{DirectSlot, PtrOf, SeasonGen, ShortInx};
+use kinds::DirectSlot;
+use numbering::{Pointer, SeasonGen};
 use stack::NonZeroInxGenericStack;
-
-pub type Pointer = PtrOf<ShortInx, SeasonGen>;
 
 pub type Slot = DirectSlot<SeasonGen, u32>;
 
@@ -16,15 +15,6 @@ pub type PointerSlot = DirectSlot<SeasonGen, Pointer>;
 pub type Register<S> = DirectArena<Pointer, u32, S>;
 
 pub type Directory<D> = DirectArena<Pointer, Pointer, D>;
-
-pub(crate) fn pointer(slot: u16, season: u32) -> Pointer
-    ensures { result ≡ record { inx = record { raw = slot }; generation = record { season = season } } }
-{
-    PtrOf {
-        inx: ShortInx { raw: slot },
-        generation: SeasonGen { season },
-    }
-}
 
 pub(crate) fn record_at(p: Pointer, value: u32) -> Concerned
     ensures { result ≡ record_at p value }

@@ -19,7 +19,7 @@ module _ {G P : Type 0} where
   standing_numbered i (h ∷ hs) = ap (λ (t : List (Held G P)). h ∷ t) (standing_numbered (suc i) hs)
 
   -- records that rise stand as they were brought
-  settled : (hs : List (Held G P)) → rising 0 hs ≡ true → records (settle [] hs) ≡ hs
+  pub settled : (hs : List (Held G P)) → rising 0 hs ≡ true → records (settle [] hs) ≡ hs
   settled hs h = records_of (settle_agrees hs 0 [] [] h none) ∙ standing_numbered 0 hs
 
 module _ {G V : Type 0} (alike : G → G → Bool) where

@@ -1,11 +1,11 @@
 -- The premises of what joined reports say hold together, and what it then says.
-use Rattle.std.proofs.Common.{◌≡◌, ℕ, ◌+◌, Bool, true, ◌⊎◌, List, [], ◌∷◌, ◌++◌, Some, None, Option, refl, ap, sym, ◌∙◌, inl, inr, arith}
+use Rattle.std.proofs.Common.{◌≡◌, ℕ, ◌+◌, Bool, true, List, [], ◌∷◌, Some, None, Option, refl, ap, sym, ◌∙◌, inl, inr, arith}
 use Rattle.kinds.specs.declared.slot.DirectSlot.{DirectSlot}
 use Rattle.kinds.specs.declared.slot.DirectSlot.TheVariants.{Free, Allocated}
 use Rattle.history.specs.Slots.{Slots, Ptr, Held, to, ptr, at}
-use Rattle.history.specs.Calls.{Call, Entry, insert, still, next}
+use Rattle.history.specs.Calls.{insert, still, next}
 use Rattle.history.specs.Roll.{Line, roll}
-use Rattle.history.specs.Laws.{In, Brings, Stands, Carried}
+use Rattle.history.specs.Laws.{In, Stands, Carried}
 use Rattle.history.specs.Directories.{Directory, recast_by}
 use Rattle.history.specs.Spans.{StoodAt, Gives, ended, Apart, AllApart, Traced}
 use Rattle.history.proofs.Spans.{last_given, given_first}

@@ -1,6 +1,7 @@
 -- Where a call leaves the records that stand: each under its generation, and in their order.
 use Rattle.std.proofs.Common.{◌≡◌, ℕ, suc, ◌<◌, ◌≤◌, Bool, true, false, List, [], ◌∷◌, refl, inl, inr, arith}
-use Rattle.history.specs.Slots.{Slots, Ptr, Held, ptr}
+use Rattle.kinds.specs.declared.slot.DirectSlot.TheVariants.{Free, Allocated}
+use Rattle.history.specs.Slots.{Slots, Ptr, Held, ptr, held}
 use Rattle.history.specs.Mapped.{moving, pairs, rising}
 use Rattle.history.specs.Calls.{Call, compress, Entry}
 use Rattle.history.specs.Roll.{Line, standing}
@@ -18,6 +19,12 @@ module _ {G V : Type 0} where
   rising_above : (n m : ℕ) (hs : List (Held G V)) → m ≤ n → rising n hs ≡ true → rising m hs ≡ true
   rising_above n m [] l h = refl
   rising_above n m (x ∷ hs) l h = grind arith
+
+  -- each record of slots stands above those before it
+  pub records_rise : (k : ℕ) (s : Slots G V) → rising k (held (suc k) s) ≡ true
+  records_rise k [] = refl
+  records_rise k (Free ∷ s) = rising_above (suc k) k (held (suc (suc k)) s) (omega arith) (records_rise (suc k) s)
+  records_rise k (Allocated g v ∷ s) = grind (arith, records_rise (suc k) s)
 
   pub lines_rise : {k : ℕ} {s : Slots G V} {ls : List (Line G V)} → Agrees G V (suc k) s ls → rising k (standing ls) ≡ true
   lines_rise none = refl

@@ -1,8 +1,18 @@
 -- A stack with a limit over any stack: its settings are those below, and the limit.
-use Rattle.std.specs.Prelude.{◌≡◌, ℕ, min, Bool, true, false, cond, length, Some, None, Option, nat_le, nat_lt}
+use Rattle.std.specs.Prelude.{◌≡◌, ℕ, min, Bool, true, false, cond, List, length, Some, None, Option, nat_le, nat_lt}
 use Rattle.outcome.specs.Outcome.{Outcome, refused}
 use Rattle.stack.specs.declared.generic.NonZeroInxGenericStack.{Ghosts}
 use Rattle.limited.specs.declared.limited.LimitedStack.{LimitedStack}
+
+-- the stack below, and what a stack under a limit lists and is set to
+abbrev pub limited_below : {S U : Type 0} {N : Ghosts S U} → LimitedStack S U N → S
+limited_below s = s.below
+
+abbrev pub limited_list : {S U : Type 0} {N : Ghosts S U} → LimitedStack S U N → List U
+limited_list {N = N} s = N.list s.below
+
+abbrev pub limited_config : {S U : Type 0} {N : Ghosts S U} → LimitedStack S U N → N.Config × ℕ
+limited_config {N = N} s = (N.config s.below, s.limit)
 
 -- the smaller of the limit and the maximum below
 abbrev pub lower : ℕ → Option ℕ → ℕ

@@ -14,11 +14,13 @@ pub struct LimitedStack<S: NonZeroInxGenericStack> {
 }
 
 impl<S: NonZeroInxGenericStack> LimitedStack<S> {
+    ghost use Rattle.limited.specs.Limited.{limited_below, limited_list, limited_config};
+
     /// The stack below, emptied; the limit is at first its capacity.
     pub fn new(mut below: S) -> Self
-        ensures slots { S.list result.below ≡ [] }
-        ensures kept { S.config result.below ≡ S.config below }
-        ensures limit { result.limit ≡ S.room (S.config below) }
+        ensures slots { limited_list result ≡ [] }
+        ensures kept { (limited_config result).0 ≡ S.config below }
+        ensures limit { (limited_config result).1 ≡ S.room (S.config below) }
     {
         below.clear();
         let limit = below.capacity();
@@ -27,7 +29,7 @@ impl<S: NonZeroInxGenericStack> LimitedStack<S> {
 
     /// The stack below, as it is.
     pub fn into_inner(self) -> S
-        ensures { result ≡ self.below }
+        ensures { result ≡ limited_below self }
     {
         let LimitedStack { below, .. } = self;
         below
@@ -37,14 +39,14 @@ impl<S: NonZeroInxGenericStack> LimitedStack<S> {
 impl<S: NonZeroInxGenericStack> NonZeroInxGenericStack for LimitedStack<S> {
     type Slot = S::Slot;
 
-    ghost use Rattle.limited.specs.Limited.{lower, LimitedRegrown};
+    ghost use Rattle.limited.specs.Limited.{lower, limited_list, limited_config, LimitedRegrown};
     ghost use Rattle.limited.specs.LimitedLaws.{limited_laws};
 
     ghost Config = { S.Config × ℕ };
 
-    ghost list = { λ s. S.list s.below };
+    ghost list = { limited_list };
 
-    ghost config = { λ s. (S.config s.below, s.limit) };
+    ghost config = { limited_config };
 
     ghost room = { λ c. min c.1 (S.room c.0) };
 

@@ -10,11 +10,6 @@ use Rattle.lines.specs.declared.error.LineError.{LineError}
 use Rattle.lines.specs.declared.error.LineError.TheVariants.{Unknown, Unfit}
 use Rattle.lines.specs.declared.verb.Verb.{Verb}
 
--- the refusal of a line that asks for no call
-abbrev pub line_number : LineError → ℕ
-line_number Unknown = 12
-line_number Unfit = 13
-
 abbrev pub field_or_unfit : Field → Result (Option ℕ) LineError
 field_or_unfit (Ok o) = Ok o
 field_or_unfit (Err e) = Err Unfit

@@ -1,6 +1,6 @@
 //! What a call on many records does to their values: mappers, which take the place of closures, and recasters.
 //! It uses `outcome`, for what a recaster's error means, and knows nothing of slots, stacks or arenas.
-//! A new mapper is an `impl` beside those here: calls are proved once, for every mapper and every recaster.
+//! A new mapper or recaster is an `impl` in the crate that needs it: calls are proved once, for every one.
 
 #![tactic(auto)]
 

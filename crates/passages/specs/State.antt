@@ -6,20 +6,18 @@ use Rattle.arena.specs.Answers.{cited}
 use Rattle.bulk.specs.Given.{point}
 use Rattle.history.specs.Directories.{Directory}
 use Rattle.history.specs.Slots.{Slots, Ptr, count}
-use Rattle.kinds.specs.Kinds.{short_number}
-use Rattle.kinds.specs.declared.generation.SeasonGen.{SeasonGen}
-use Rattle.kinds.specs.declared.index.ShortInx.{ShortInx}
-use Rattle.kinds.specs.declared.pointer.PtrOf.{PtrOf}
+use Rattle.numbering.specs.Kinds.{short_number}
+use Rattle.numbering.specs.Pointers.{Pointer, pointer_at}
+use Rattle.numbering.specs.declared.generation.SeasonGen.{SeasonGen}
+use Rattle.numbering.specs.declared.index.ShortInx.{ShortInx}
 use Rattle.kinds.specs.declared.slot.DirectSlot.{DirectSlot}
 use Rattle.limited.specs.declared.limited.LimitedStack.{LimitedStack}
-use Rattle.slab_stack.specs.Slab.{slab_list, slab_lent}
+use Rattle.limited.specs.Limited.{limited_list, limited_config}
+use Rattle.slab_stack.specs.SlabLaws.{slab_members}
 use Rattle.stack.specs.Fixed.{fixed_list, fixed_lent}
 use Rattle.stack.specs.Slots.{counted}
 use Rattle.stack.specs.declared.fixed.FixedStack.{FixedStack}
 use Rattle.slab_stack.specs.declared.slab.SlabStack.{SlabStack}
-
-abbrev pub Pointer : Type 0
-Pointer = PtrOf ShortInx SeasonGen
 
 -- What a register's own calls depend on: its slots, the slab's capacity, how many slots are lent to it, and the limit.
 pub record RegisterState : Type 0 where
@@ -34,10 +32,15 @@ pub record State : Type 0 where
   pub latest : Directory SeasonGen Pointer
   pub latest_room : ℕ
 
-abbrev pub register_of : {N : _} → LimitedStack (SlabStack (DirectSlot SeasonGen ℕ)) (DirectSlot SeasonGen ℕ) N → RegisterState
-register_of r = record { slots = slab_list r.below; room = r.below.room; lent = slab_lent r.below; limit = r.limit }
+-- the register's stack: a slab under a limit
+abbrev pub RegisterStack : Type 0
+RegisterStack = LimitedStack (SlabStack (DirectSlot SeasonGen ℕ)) (DirectSlot SeasonGen ℕ) slab_members
 
-abbrev pub state_of : {N : _} → LimitedStack (SlabStack (DirectSlot SeasonGen ℕ)) (DirectSlot SeasonGen ℕ) N → FixedStack (DirectSlot SeasonGen Pointer) → State
+-- read by its list and its settings: those of the slab, and the limit
+abbrev pub register_of : RegisterStack → RegisterState
+register_of r = let c = limited_config r in record { slots = limited_list r; room = c.0.0; lent = c.0.1; limit = c.1 }
+
+abbrev pub state_of : RegisterStack → FixedStack (DirectSlot SeasonGen Pointer) → State
 state_of r d = record { register = register_of r; latest = fixed_list d; latest_room = fixed_lent d }
 
 -- a new register over so many lent slots
@@ -58,9 +61,6 @@ short_point = point {P = Pointer} {I = ShortInx} {G = SeasonGen} (λ n. record {
 abbrev pub short_view : Pointer → Ptr SeasonGen
 short_view = cited {P = Pointer} short_number (λ p. p.inx) (λ p. p.generation)
 
--- the pointer of a slot field and a generation field
-abbrev pub pointer_at : ℕ → ℕ → Pointer
-pointer_at slot season = record { inx = record { raw = slot }; generation = record { season = season } }
-
+-- the view of the pointer of a slot field and a generation field
 abbrev pub cite : ℕ → ℕ → Ptr SeasonGen
 cite slot season = short_view (pointer_at slot season)

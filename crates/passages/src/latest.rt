@@ -1,9 +1,9 @@
 ghost use Rattle.std.specs.Prelude.{◌≡◌, [], length};
 ghost use Rattle.stack.specs.Fixed.{fixed_list, fixed_lent};
 
-use crate::register::Pointer;
 use arena::DirectArena;
-use kinds::{DirectSlot, SeasonGen};
+use kinds::DirectSlot;
+use numbering::{Pointer, SeasonGen};
 use stack::FixedStack;
 
 pub type PointerSlot = DirectSlot<SeasonGen, Pointer>;

@@ -8,4 +8,4 @@ pub mod latest;
 pub mod register;
 
 pub use latest::{Directory, PointerSlot, open_directory};
-pub use register::{Pointer, Register, Slot, open, pointer, tally};
+pub use register::{Register, Slot, open, tally};

@@ -1,13 +1,12 @@
 ghost use Rattle.std.specs.Prelude.{◌≡◌, ◌≤◌, length};
-ghost use Rattle.passages.specs.State.{register_of, opened, tally_of, pointer_at};
+ghost use Rattle.passages.specs.State.{register_of, opened, tally_of};
 
 use answers::answer::Tally;
 use arena::DirectArena;
-use kinds::{DirectSlot, PtrOf, SeasonGen, ShortInx};
+use kinds::DirectSlot;
 use limited::LimitedStack;
+use numbering::{Pointer, SeasonGen};
 use slab_stack::SlabStack;
-
-pub type Pointer = PtrOf<ShortInx, SeasonGen>;
 
 pub type Slot = DirectSlot<SeasonGen, u32>;
 
@@ -22,16 +21,6 @@ pub fn open<'a>(slots: &'a mut [Slot]) -> Register<'a>
 {
     let slab = SlabStack::with_min_capacity(slots, REQUEST);
     DirectArena::new(LimitedStack::new(slab))
-}
-
-/// The pointer of a slot and a season.
-pub fn pointer(slot: u16, season: u32) -> Pointer
-    ensures { result ≡ pointer_at slot season }
-{
-    PtrOf {
-        inx: ShortInx { raw: slot },
-        generation: SeasonGen { season },
-    }
 }
 
 /// What the register holds.

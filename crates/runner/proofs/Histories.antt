@@ -10,19 +10,20 @@ use Rattle.history.specs.Calls.{Entry, went, asks, Leads, next, pointer}
 use Rattle.history.specs.Mapped.{kept, records}
 use Rattle.history.specs.Directories.{filling, filled_slots}
 use Rattle.history.proofs.Fills.{then_through, filling_leads}
-use Rattle.bulk.proofs.Brought.{records_rise}
+use Rattle.history.proofs.Moves.{records_rise}
 use Rattle.directory.proofs.Reported.{report_rises}
 use Rattle.history.specs.Slots.{Slots, Ptr, Held, at, is_free, has_gen}
-use Rattle.kinds.specs.Kinds.{season_alike}
+use Rattle.numbering.specs.Kinds.{season_alike}
 use Rattle.outcome.specs.Outcome.{Outcome, done, refused}
-use Rattle.kinds.specs.declared.generation.SeasonGen.{SeasonGen}
+use Rattle.numbering.specs.declared.generation.SeasonGen.{SeasonGen}
 use Rattle.kinds.specs.declared.slot.DirectSlot.{DirectSlot}
 use Rattle.kinds.specs.declared.slot.DirectSlot.TheVariants.{Free, Allocated}
 use Rattle.lines.specs.Meaning.{meaning}
 use Rattle.lines.specs.declared.call.Call.{Call}
 use Rattle.lines.specs.declared.call.Call.TheVariants.{Insert, Edit, Get, Remove, Trim, Reserve, Limit, Clear, Compress, Recast}
 use Rattle.lines.specs.declared.error.LineError.{LineError}
-use Rattle.passages.specs.State.{Pointer, State, capacity_of, short_point, cite}
+use Rattle.numbering.specs.Pointers.{Pointer}
+use Rattle.passages.specs.State.{State, capacity_of, short_point, cite}
 use Rattle.steps.specs.Model.{shown, outcome, recorded, slots_by, entries, fills, report_of, after_line, adds, latest_adds}
 use Rattle.runner.specs.Run.{lines_by, after_all, adds_all, latest_adds_all, state_by}
 use Rattle.runner.specs.Led.{Led, Reached, Stopped}

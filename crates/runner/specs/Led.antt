@@ -1,9 +1,10 @@
 -- A run and the histories of the register's arena and of its latest directory.
 use Rattle.std.specs.Prelude.{◌≡◌, ℕ, List, ◌++◌, Option}
 use Rattle.history.specs.Calls.{Entry, Leads}
-use Rattle.kinds.specs.Kinds.{season_alike}
-use Rattle.kinds.specs.declared.generation.SeasonGen.{SeasonGen}
-use Rattle.passages.specs.State.{Pointer, State}
+use Rattle.numbering.specs.Kinds.{season_alike}
+use Rattle.numbering.specs.declared.generation.SeasonGen.{SeasonGen}
+use Rattle.numbering.specs.Pointers.{Pointer}
+use Rattle.passages.specs.State.{State}
 use Rattle.runner.specs.Run.{lines_by, adds_by, adds_all, latest_adds_by, latest_adds_all, after_all}
 
 -- Whichever history led to the register, that history with these calls leads to what it is now; and whichever history

@@ -2,11 +2,12 @@
 use Rattle.std.specs.Prelude.{ℕ, List, [], ◌∷◌, ◌++◌, Some, None, codes, Option}
 use Rattle.answers.specs.Shown.{reply_line}
 use Rattle.history.specs.Calls.{Entry}
-use Rattle.kinds.specs.declared.generation.SeasonGen.{SeasonGen}
+use Rattle.numbering.specs.declared.generation.SeasonGen.{SeasonGen}
 use Rattle.lines.specs.Meaning.{meaning}
 use Rattle.lines.specs.Script.{script_of}
 use Rattle.outcome.specs.Outcome.{refused}
-use Rattle.passages.specs.State.{Pointer, State, tally_of}
+use Rattle.numbering.specs.Pointers.{Pointer}
+use Rattle.passages.specs.State.{State, tally_of}
 use Rattle.steps.specs.Model.{answer_to, after_line, adds, latest_adds}
 
 -- what is written of lines, from a state on

@@ -6,7 +6,7 @@ use Rattle.std.proofs.lemmas.Bool.{and_parts}
 use Rattle.lines.specs.Call.{fits, number_in}
 use Rattle.lines.specs.Meaning as runner
 use Rattle.lines.specs.Texts as texts
-use Rattle.lines.specs.Texts.{row, blank}
+use Rattle.lines.specs.Texts.{row}
 use Rattle.lines.specs.declared.call.Call as runner_call
 use Rattle.lines.specs.declared.call.Call.TheVariants as shared
 use Rattle.lines.specs.declared.error.LineError.{LineError}

@@ -12,18 +12,19 @@ use Rattle.history.specs.Calls.{Entry, entry, after, pointer}
 use Rattle.history.specs.Directories.{Directory, recast_by, filling, filled_slots}
 use Rattle.history.specs.Mapped.{Pair, kept, records, report}
 use Rattle.history.specs.Slots.{Slots, count, trimmed}
-use Rattle.kinds.specs.Kinds.{season_alike}
+use Rattle.numbering.specs.Kinds.{season_alike}
 use Rattle.outcome.specs.Outcome.{Outcome, done, overflowed, refused}
-use Rattle.kinds.specs.declared.generation.SeasonGen.{SeasonGen}
-use Rattle.lines.specs.Meaning.{line_number}
+use Rattle.numbering.specs.declared.generation.SeasonGen.{SeasonGen}
+use Rattle.answers.specs.Refusals.{line_number}
 use Rattle.lines.specs.declared.call.Call.{Call}
 use Rattle.lines.specs.declared.call.Call.TheVariants.{Insert, Edit, Get, Remove, Trim, Reserve, Limit, Clear, Compress, Recast}
 use Rattle.lines.specs.declared.error.LineError.{LineError}
 use Rattle.stack.specs.Limits.{limit_answer}
 use Rattle.slab_stack.specs.Slab.{slab_answer, slab_room}
 use Rattle.stack.specs.Slots.{counted}
-use Rattle.passages.specs.State as passages
-use Rattle.passages.specs.State.{RegisterState, State, capacity_of, tally_of, short_point, short_view, pointer_at, cite}
+use Rattle.numbering.specs.Pointers as pointers
+use Rattle.numbering.specs.Pointers.{pointer_at}
+use Rattle.passages.specs.State.{RegisterState, State, capacity_of, tally_of, short_point, short_view, cite}
 
 -- what an accepted call shows
 abbrev pub shown : {X : Type 0} → (X → Concerned) → Outcome X → Outcome Concerned
@@ -61,11 +62,11 @@ abbrev pub takes_report : State → Bool
 takes_report st = nat_le (last_slot (records st.register.slots)) (min st.latest_room 65535)
 
 -- the pointer held, or 9
-abbrev pub held_answer : Option passages.Pointer → Outcome Concerned
+abbrev pub held_answer : Option pointers.Pointer → Outcome Concerned
 held_answer None = refused 9
 held_answer (Some p) = done (Pointer p.inx.raw p.generation.season)
 
-abbrev pub recast_outcome : Directory SeasonGen passages.Pointer → ℕ → ℕ → Outcome Concerned
+abbrev pub recast_outcome : Directory SeasonGen pointers.Pointer → ℕ → ℕ → Outcome Concerned
 recast_outcome d s g = held_answer (recast_by season_alike short_view d (pointer_at s g))
 
 -- whether a call is accepted, with what it shows, or its refusal's number
@@ -123,7 +124,7 @@ abbrev pub fills : State → Call → Bool
 fills st Compress = takes_report st
 fills st c = false
 
-abbrev pub latest_after : State → Call → Directory SeasonGen passages.Pointer
+abbrev pub latest_after : State → Call → Directory SeasonGen pointers.Pointer
 latest_after st c = cond (fills st c) (filled_slots short_point (report_of st)) st.latest
 
 abbrev pub state_after : State → Call → State
@@ -148,6 +149,6 @@ adds st (Ok c) = entries (recorded c) (outcome st c)
 adds st (Err e) = []
 
 -- and to that of the latest directory: the calls of its filling, where it is filled
-abbrev pub latest_adds : State → Result Call LineError → List (Entry SeasonGen passages.Pointer)
+abbrev pub latest_adds : State → Result Call LineError → List (Entry SeasonGen pointers.Pointer)
 latest_adds st (Ok c) = cond (fills st c) (filling short_point (report_of st)) []
 latest_adds st (Err e) = []

@@ -11,7 +11,8 @@ use answers::answer::Concerned;
 use answers::refusal::Refusal;
 use directory::compress_into;
 use mapper::{KeepValues, Recaster};
-use passages::{Directory, Register, pointer};
+use numbering::pointer;
+use passages::{Directory, Register};
 
 pub(crate) fn insert(
     register: &mut Register<'_>,

@@ -9,13 +9,14 @@ use Rattle.history.specs.Mapped.{records, report, kept}
 use Rattle.history.specs.Slots.{Slots, count}
 use Rattle.history.specs.Spans.{Span, compresses, unbroken, ended, all_ended, up_to, Successive}
 use Rattle.history.proofs.Runs.{stands}
-use Rattle.kinds.specs.Kinds.{season_alike}
-use Rattle.kinds.specs.declared.generation.SeasonGen.{SeasonGen}
+use Rattle.numbering.specs.Kinds.{season_alike}
+use Rattle.numbering.specs.declared.generation.SeasonGen.{SeasonGen}
 use Rattle.lines.specs.declared.error.LineError.{LineError}
 use Rattle.outcome.specs.Outcome.{Outcome}
 use Rattle.season.specs.declared.call.Call.{Call}
 use Rattle.trails.specs.Chronicle.{OwnCopies, Chronicle, GoesOn, recorded, adds}
-use Rattle.passages.specs.State.{Pointer, short_view}
+use Rattle.numbering.specs.Pointers.{Pointer}
+use Rattle.passages.specs.State.{short_view}
 use Rattle.trails.specs.Reports.{copied, Added}
 
 pub new_chronicle : {s : Slots SeasonGen ℕ} → s ≡ [] → Chronicle [] [] s

@@ -8,13 +8,13 @@ use Rattle.history.specs.Calls.{bring, compress, Step}
 use Rattle.history.specs.Directories.{Directory}
 use Rattle.history.specs.Mapped.{stays, records, moving, packed, settle, kept}
 use Rattle.history.specs.Slots.{Slots, Ptr, Held}
-use Rattle.kinds.specs.Kinds.{season_alike}
-use Rattle.kinds.specs.declared.generation.SeasonGen.{SeasonGen}
-use Rattle.kinds.specs.declared.index.ShortInx.{ShortInx}
+use Rattle.numbering.specs.Kinds.{season_alike}
+use Rattle.numbering.specs.declared.generation.SeasonGen.{SeasonGen}
+use Rattle.numbering.specs.declared.index.ShortInx.{ShortInx}
 use Rattle.kinds.specs.declared.slot.DirectSlot.{DirectSlot}
 use Rattle.stack.specs.Fixed.{fixed_list}
 use Rattle.stack.specs.declared.fixed.FixedStack.{FixedStack}
-use Rattle.passages.specs.State.{Pointer}
+use Rattle.numbering.specs.Pointers.{Pointer}
 use Rattle.trails.specs.Reports.{reports_in, first_reports, copied}
 
 pub one_more : (ds : List (FixedStack (DirectSlot SeasonGen Pointer))) (n : ℕ) (d : FixedStack (DirectSlot SeasonGen Pointer)) → n < length ds → first_reports (n + 1) (slice_set ds n d) ≡ first_reports n ds ++ (fixed_list d ∷ [])

@@ -2,9 +2,9 @@
 use Rattle.std.proofs.Common.{◌≡◌, ℕ, List, [], ◌∷◌, ◌++◌, Option, Result, sym, refl, subst, append_assoc, append-nil}
 use Rattle.history.specs.Calls.{Entry}
 use Rattle.history.specs.Directories.{Directory}
-use Rattle.kinds.specs.declared.generation.SeasonGen.{SeasonGen}
+use Rattle.numbering.specs.declared.generation.SeasonGen.{SeasonGen}
 use Rattle.lines.specs.declared.error.LineError.{LineError}
-use Rattle.passages.specs.State.{Pointer}
+use Rattle.numbering.specs.Pointers.{Pointer}
 use Rattle.season.specs.Meaning.{meaning}
 use Rattle.season.specs.declared.call.Call.{Call}
 use Rattle.answers.specs.declared.refusal.Refusal.{Refusal}

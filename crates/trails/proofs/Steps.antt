@@ -1,12 +1,12 @@
 -- A loop over the compressions since a citation.
 use Rattle.std.proofs.Common.{◌≡◌, ℕ, ◌+◌, ◌≤◌, List, ◌∷◌, ◌++◌, length, drop, Some, None, Option, sym, ap, ◌∙◌, append_assoc, append-nil}
 use Rattle.std.proofs.lemmas.List.{drop_all}
-use Rattle.kinds.specs.declared.generation.SeasonGen.{SeasonGen}
+use Rattle.numbering.specs.declared.generation.SeasonGen.{SeasonGen}
 use Rattle.kinds.specs.declared.slot.DirectSlot.{DirectSlot}
 use Rattle.stack.specs.Fixed.{fixed_list}
 use Rattle.stack.specs.declared.fixed.FixedStack.{FixedStack}
 use Rattle.trails.specs.Lines.{written, moved_line, led_by, onward, steps_text, through, come_through}
-use Rattle.passages.specs.State.{Pointer}
+use Rattle.numbering.specs.Pointers.{Pointer}
 use Rattle.trails.specs.Reports.{reports_in}
 
 -- out is written, at is the pointer that came so far, and what is left gives the whole

@@ -5,13 +5,14 @@ use Rattle.history.specs.Directories.{Directory, Brackets, one, both, bracketed,
 use Rattle.history.specs.Slots.{Slots, count}
 use Rattle.history.specs.Spans.{Span, opens, ended, all_ended, Successive, Promise}
 use Rattle.history.proofs.Lawful.{lawful}
-use Rattle.kinds.specs.Kinds.{season_alike}
-use Rattle.kinds.specs.declared.generation.SeasonGen.{SeasonGen}
+use Rattle.numbering.specs.Kinds.{season_alike}
+use Rattle.numbering.specs.declared.generation.SeasonGen.{SeasonGen}
 use Rattle.kinds.specs.declared.slot.DirectSlot.{DirectSlot}
 use Rattle.stack.specs.Fixed.{fixed_list}
 use Rattle.stack.specs.declared.fixed.FixedStack.{FixedStack}
 use Rattle.trails.specs.Chronicle.{OwnCopies}
-use Rattle.passages.specs.State.{Pointer, short_view}
+use Rattle.numbering.specs.Pointers.{Pointer}
+use Rattle.passages.specs.State.{short_view}
 use Rattle.trails.specs.Reports.{reports_in, copied}
 use Rattle.trails.specs.Today.{joined_on, Promised, PromiseToday}
 

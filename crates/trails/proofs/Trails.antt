@@ -3,10 +3,10 @@ use Rattle.std.proofs.Common.{◌≡◌, ℕ, ◌-◌, min, List, [], ◌++◌, 
 use Rattle.std.proofs.lemmas.List.{drop_min, length-drop, take_all}
 use Rattle.history.specs.Directories.{Directory}
 use Rattle.history.specs.Slots.{Slots}
-use Rattle.kinds.specs.declared.generation.SeasonGen.{SeasonGen}
-use Rattle.outcome.specs.declared.errors.DirectoryError.{DirectoryError}
+use Rattle.numbering.specs.declared.generation.SeasonGen.{SeasonGen}
+use Rattle.directory.specs.declared.error.DirectoryError.{DirectoryError}
 use Rattle.trails.specs.Lines.{written, today_line, onward, steps_text, come_through}
-use Rattle.passages.specs.State.{Pointer}
+use Rattle.numbering.specs.Pointers.{Pointer}
 use Rattle.trails.specs.Today.{today_of, Answered, Told}
 use Rattle.trails.specs.declared.line.Line.TheVariants.{Cites}
 use Rattle.trails.specs.declared.trail.Citation.{Citation}

@@ -4,15 +4,15 @@ use Rattle.answers.specs.declared.refusal.Refusal.{Refusal}
 use Rattle.bulk.specs.Brought.{last_slot}
 use Rattle.history.specs.Mapped.{records}
 use Rattle.history.specs.Records.{found}
-use Rattle.kinds.specs.Kinds.{season_alike}
-use Rattle.lines.specs.Meaning.{line_number}
+use Rattle.numbering.specs.Kinds.{season_alike}
+use Rattle.answers.specs.Refusals.{line_number}
 use Rattle.lines.specs.declared.error.LineError.{LineError}
 use Rattle.outcome.specs.Outcome.{Outcome, done, overflowed, refused}
-use Rattle.passages.specs.State.{RegisterState, capacity_of, pointer_at}
+use Rattle.numbering.specs.Pointers.{Pointer, pointer_at}
+use Rattle.passages.specs.State.{RegisterState, capacity_of, short_view}
 use Rattle.season.specs.declared.call.Call.{Call}
 use Rattle.season.specs.declared.call.Call.TheVariants.{Insert, Remove, Edit, Compress, Cite}
 use Rattle.slots.specs.Inserted.{insert_answer}
-use Rattle.passages.specs.State.{Pointer, short_view}
 use Rattle.trails.specs.Lines.{written}
 use Rattle.trails.specs.Reports.{held_or_not, takes}
 use Rattle.trails.specs.declared.line.Line.TheVariants.{Refused}

@@ -6,11 +6,12 @@ use Rattle.history.specs.Directories.{Directory}
 use Rattle.history.specs.Mapped.{kept}
 use Rattle.history.specs.Slots.{Slots}
 use Rattle.history.specs.Spans.{Span, all_ended, unbroken, Successive, directories}
-use Rattle.kinds.specs.Kinds.{season_alike}
-use Rattle.kinds.specs.declared.generation.SeasonGen.{SeasonGen}
+use Rattle.numbering.specs.Kinds.{season_alike}
+use Rattle.numbering.specs.declared.generation.SeasonGen.{SeasonGen}
 use Rattle.lines.specs.declared.error.LineError.{LineError}
 use Rattle.outcome.specs.Outcome.{Outcome}
-use Rattle.passages.specs.State.{Pointer, RegisterState, cite, short_view}
+use Rattle.numbering.specs.Pointers.{Pointer}
+use Rattle.passages.specs.State.{RegisterState, cite, short_view}
 use Rattle.season.specs.Meaning.{meaning}
 use Rattle.season.specs.declared.call.Call.{Call}
 use Rattle.season.specs.declared.call.Call.TheVariants.{Insert, Remove, Edit, Compress, Cite}

@@ -5,10 +5,11 @@ use Rattle.answers.specs.Shown.{spaced}
 use Rattle.answers.specs.declared.refusal.Refusal.{Refusal}
 use Rattle.answers.specs.declared.refusal.Refusal.TheVariants.{NoRoomForReport}
 use Rattle.history.specs.Directories.{Directory, recast_by}
-use Rattle.kinds.specs.Kinds.{season_alike}
-use Rattle.kinds.specs.declared.generation.SeasonGen.{SeasonGen}
-use Rattle.outcome.specs.declared.errors.DirectoryError.{DirectoryError}
-use Rattle.passages.specs.State.{Pointer, short_view}
+use Rattle.numbering.specs.Kinds.{season_alike}
+use Rattle.numbering.specs.declared.generation.SeasonGen.{SeasonGen}
+use Rattle.directory.specs.declared.error.DirectoryError.{DirectoryError}
+use Rattle.numbering.specs.Pointers.{Pointer}
+use Rattle.passages.specs.State.{short_view}
 use Rattle.trails.specs.declared.line.Line.{Line}
 use Rattle.trails.specs.declared.trail.Citation.{Citation}
 use Rattle.trails.specs.declared.line.Line.TheVariants.{NoSeason, Refused, Totals, Cites, Moved, Ended, Today, EndedToday, RefusedToday}

@@ -5,10 +5,11 @@ use Rattle.answers.specs.declared.refusal.Refusal.{Refusal}
 use Rattle.history.specs.Directories.{Directory, Holds}
 use Rattle.history.specs.Mapped.{Pair, records, settle}
 use Rattle.history.specs.Slots.{Held}
-use Rattle.kinds.specs.declared.generation.SeasonGen.{SeasonGen}
+use Rattle.numbering.specs.declared.generation.SeasonGen.{SeasonGen}
 use Rattle.kinds.specs.declared.slot.DirectSlot.{DirectSlot}
 use Rattle.outcome.specs.Outcome.{Outcome, done, refused}
-use Rattle.passages.specs.State.{Pointer, RegisterState, short_view}
+use Rattle.numbering.specs.Pointers.{Pointer}
+use Rattle.passages.specs.State.{RegisterState, short_view}
 use Rattle.stack.specs.Fixed.{fixed_list, fixed_lent}
 use Rattle.stack.specs.declared.fixed.FixedStack.{FixedStack}
 

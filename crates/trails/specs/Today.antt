@@ -8,15 +8,16 @@ use Rattle.history.specs.Laws.{Lawful}
 use Rattle.history.specs.Mapped.{records}
 use Rattle.history.specs.Slots.{Slots, count}
 use Rattle.history.specs.Spans.{Span, all_ended, directories, Traced, Promise}
-use Rattle.kinds.specs.Kinds.{season_alike}
-use Rattle.kinds.specs.declared.generation.SeasonGen.{SeasonGen}
+use Rattle.numbering.specs.Kinds.{season_alike}
+use Rattle.numbering.specs.declared.generation.SeasonGen.{SeasonGen}
 use Rattle.kinds.specs.declared.slot.DirectSlot.{DirectSlot}
-use Rattle.outcome.specs.declared.errors.DirectoryError.{DirectoryError}
+use Rattle.directory.specs.declared.error.DirectoryError.{DirectoryError}
 use Rattle.stack.specs.Slots.{counted}
 use Rattle.stack.specs.declared.fixed.FixedStack.{FixedStack}
 use Rattle.trails.specs.Chronicle.{Chronicle}
 use Rattle.trails.specs.Lines.{trail_text}
-use Rattle.passages.specs.State.{Pointer, short_view}
+use Rattle.numbering.specs.Pointers.{Pointer}
+use Rattle.passages.specs.State.{short_view}
 use Rattle.trails.specs.Reports.{reports_in, copied}
 use Rattle.trails.specs.declared.trail.Citation.{Citation}
 

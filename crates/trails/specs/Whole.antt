@@ -2,9 +2,10 @@
 use Rattle.std.specs.Prelude.{◌≡◌, ℕ, List, [], ◌++◌, Some, None, Option}
 use Rattle.answers.specs.declared.refusal.Refusal.TheVariants.{NotAScript}
 use Rattle.history.specs.Slots.{count}
-use Rattle.kinds.specs.declared.generation.SeasonGen.{SeasonGen}
+use Rattle.numbering.specs.declared.generation.SeasonGen.{SeasonGen}
 use Rattle.kinds.specs.declared.slot.DirectSlot.{DirectSlot}
-use Rattle.passages.specs.State.{Pointer, RegisterState}
+use Rattle.numbering.specs.Pointers.{Pointer}
+use Rattle.passages.specs.State.{RegisterState}
 use Rattle.stack.specs.declared.fixed.FixedStack.{FixedStack}
 use Rattle.trails.specs.Chronicle.{Point, start, Ran}
 use Rattle.trails.specs.Lines.{written}

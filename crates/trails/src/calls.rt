@@ -4,7 +4,7 @@ ghost use Rattle.bulk.specs.Brought.{last_slot};
 ghost use Rattle.outcome.specs.Outcome.{done, refused};
 ghost use Rattle.history.specs.Calls.{insert as insertion, edit as editing, remove as removal, compress as compression, pointer as by_pointer, went, entry, Step};
 ghost use Rattle.history.specs.Mapped.{records, report, kept};
-ghost use Rattle.kinds.specs.Kinds.{season_alike};
+ghost use Rattle.numbering.specs.Kinds.{season_alike};
 ghost use Rattle.passages.specs.State.{register_of, capacity_of, short_view};
 ghost use Rattle.slots.specs.Inserted.{insert_answer};
 ghost use Rattle.slots.specs.Records.{found};
@@ -13,7 +13,8 @@ ghost use Rattle.trails.specs.Reports.{settings_of, of_call, held_or_not, first_
 use answers::refusal::Refusal;
 use directory::compress_into;
 use mapper::KeepValues;
-use passages::{Directory, Pointer, Register};
+use numbering::Pointer;
+use passages::{Directory, Register};
 
 pub(crate) fn insert(register: &mut Register<'_>, p: Pointer, value: u32) -> Result<(), Refusal>
     ensures answer { of_call result ≡ insert_answer (capacity_of (register_of register.old)) (short_view p) (register_of register.old).slots }

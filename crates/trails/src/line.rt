@@ -3,7 +3,7 @@ ghost use Rattle.std.specs.Prelude.{Some};
 ghost use Rattle.trails.specs.Lines.{pointer_text, line_text};
 
 use answers::refusal::Refusal;
-use passages::Pointer;
+use numbering::Pointer;
 use std::fmt;
 
 /// A pointer as papers write it.

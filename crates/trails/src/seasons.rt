@@ -1,5 +1,5 @@
 // A season from its first line to its last, and then the trails of its citations.
-ghost use Rattle.std.specs.Prelude.{◌≡◌, ℕ, [], IfOk, OnOk, string_bytes};
+ghost use Rattle.std.specs.Prelude.{◌≡◌, ℕ, IfOk, OnOk, string_bytes};
 ghost use Rattle.lines.specs.Script.{script_of};
 ghost use Rattle.passages.specs.State.{register_of};
 ghost use Rattle.stack.specs.Fixed.{fixed_lent};
@@ -7,7 +7,7 @@ ghost use Rattle.text.specs.Split.{lines_of};
 ghost use Rattle.trails.specs.Chronicle.{adds, left_by, counted_with, rooms_with, GoesOn, Ran};
 ghost use Rattle.trails.specs.Whole.{Whole, WholeOf};
 ghost use Rattle.trails.specs.Answers.{Gets, Notes};
-ghost use Rattle.trails.specs.Reports.{settings_of, of_call, reports_in, first_reports, rooms_left};
+ghost use Rattle.trails.specs.Reports.{settings_of, of_call, first_reports, rooms_left};
 ghost use Rattle.trails.specs.Today.{AllTold};
 
 use crate::calls;
@@ -16,7 +16,8 @@ use crate::trail::{Citation, add_trail};
 use answers::refusal::Refusal;
 use lines::error::LineError;
 use lines::script::after_names;
-use passages::{Directory, Pointer, Register, pointer};
+use numbering::{Pointer, pointer};
+use passages::{Directory, Register};
 use season::call::Call;
 use season::parse::parse;
 use std::alloc::{AllocError, Global};

@@ -3,7 +3,7 @@ ghost use Rattle.std.specs.Prelude.{◌≡◌, ◌++◌, IfOk, OnOk, min, nat_le
 ghost use Rattle.bulk.specs.Brought.{last_slot};
 ghost use Rattle.history.specs.Calls.{went};
 ghost use Rattle.history.specs.Mapped.{records};
-ghost use Rattle.outcome.specs.Outcome.{of_directory};
+ghost use Rattle.directory.specs.Outcomes.{of_directory};
 ghost use Rattle.passages.specs.State.{register_of};
 ghost use Rattle.stack.specs.Fixed.{fixed_list, fixed_lent};
 ghost use Rattle.stack.specs.Slots.{counted};
@@ -13,10 +13,11 @@ ghost use Rattle.trails.specs.Today.{joined_on, Answered, PromiseToday, Told};
 
 use crate::line::Line;
 use answers::refusal::Refusal;
+use directory::DirectoryError;
 use directory::find::find;
 use mapper::{KeepValues, Recaster};
-use outcome::DirectoryError;
-use passages::{Directory, Pointer, Register};
+use numbering::Pointer;
+use passages::{Directory, Register};
 use std::alloc::AllocError;
 
 /// A paper's citation: the line at which it was written, the pointer, and how many compressions came before it.

@@ -1,6 +1,6 @@
-use Rattle.kinds.specs.Kinds.{season_alike}
+use Rattle.numbering.specs.Kinds.{season_alike}
 use Rattle.std.proofs.Common.{◌≡◌, true, arith}
-use Rattle.kinds.specs.declared.generation.SeasonGen.{SeasonGen}
+use Rattle.numbering.specs.declared.generation.SeasonGen.{SeasonGen}
 use Rattle.history.proofs.Followed.{followed, said}
 use Rattle.examples.proofs.worked_examples.Goals as goal
 

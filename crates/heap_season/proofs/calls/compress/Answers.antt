@@ -1,7 +1,7 @@
 use Rattle.std.proofs.Common.{◌≡◌, rules}
 use Rattle.answers.specs.Refusals.{of_verdict}
 use Rattle.history.specs.Calls.{went}
-use Rattle.outcome.specs.Outcome.{of_directory}
+use Rattle.directory.specs.Outcomes.{of_directory}
 use Rattle.heap_season.proofs.Kept.{kept_step}
 use Rattle.heap_season.proofs.calls.compress.Goals.{in-Ok, in-Err}
 use Rattle.heap_season.proofs.calls.compress.Goals as goal

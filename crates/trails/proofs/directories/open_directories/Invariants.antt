@@ -1,8 +1,8 @@
 use Rattle.std.proofs.Common.{◌≡◌, List, ◌++◌, length}
 use Rattle.std.specs.Slice.Iter.{chunks_mut_rest, chunks_mut_size}
-use Rattle.kinds.specs.declared.generation.SeasonGen.{SeasonGen}
+use Rattle.numbering.specs.declared.generation.SeasonGen.{SeasonGen}
 use Rattle.kinds.specs.declared.slot.DirectSlot.{DirectSlot}
-use Rattle.passages.specs.State.{Pointer}
+use Rattle.numbering.specs.Pointers.{Pointer}
 use Rattle.stack.specs.declared.fixed.FixedStack.{FixedStack}
 use Rattle.trails.specs.Reports.{Opened}
 use Rattle.trails.proofs.directories.open_directories.Given as goal

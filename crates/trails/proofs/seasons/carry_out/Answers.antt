@@ -1,7 +1,8 @@
 use Rattle.std.proofs.Common.{rules, ◌≡◌, Ok, Some, sym, ap, refl}
 use Rattle.history.specs.Calls as history
 use Rattle.history.specs.Calls.{went}
-use Rattle.passages.specs.State.{Pointer, short_view}
+use Rattle.numbering.specs.Pointers.{Pointer}
+use Rattle.passages.specs.State.{short_view}
 use Rattle.season.specs.declared.call.Call.TheVariants.{Insert, Remove, Edit, Compress}
 use Rattle.trails.specs.Reports.{of_call}
 use Rattle.trails.proofs.Chronicles.{call_more, compression_more, never_both, line_on}
