@@ -1,42 +1,28 @@
 // The arenas and advancers of a script, and the calls on them.
 
-use crate::call::{Call, One, Start, Two};
-use crate::kind::{Kind, write_pointer};
 use crate::shelf::Shelf;
-use crate::value::Value;
-use crate::word::Fault;
 use arena::advancer::PtrAdvancer;
-use kinds::DirectSlot;
-use stack::{NonZeroInxGenericStack, SetMaxCapacity};
+use call_answers::answers::{Answers, AnswersWith, Recasts};
+use call_script::call::{Call, Cited, One, Start, Two};
+use call_script::correction::Correction;
+use call_script::kind::{Kind, write_pointer};
+use call_script::word::Fault;
 use std::alloc::{AllocError, Global};
 
 #[derive(Drop)]
-pub struct World<
-    't,
-    P: Kind + Value<P>,
-    F: NonZeroInxGenericStack<Slot = DirectSlot<P::Gen, u32>>,
-    L: SetMaxCapacity<Slot = DirectSlot<P::Gen, u32>>,
-    H: NonZeroInxGenericStack<Slot = DirectSlot<P::Gen, u32>>,
-    G: NonZeroInxGenericStack<Slot = DirectSlot<P::Gen, P>>,
-    M: SetMaxCapacity<Slot = DirectSlot<P::Gen, P>>,
-    K: NonZeroInxGenericStack<Slot = DirectSlot<P::Gen, P>>,
-> {
+pub struct World<'t, P: Kind, N, D> {
     heap: Global,
-    pub numbers: Shelf<'t, P, u32, F, L, H>,
-    pub pointers: Shelf<'t, P, P, G, M, K>,
+    pub numbers: Shelf<'t, N>,
+    pub pointers: Shelf<'t, D>,
     advancers: Vec<(&'t [u8], PtrAdvancer<P>)>,
 }
 
 impl<
     't,
-    P: Kind + Value<P>,
-    F: NonZeroInxGenericStack<Slot = DirectSlot<P::Gen, u32>> + Drop,
-    L: SetMaxCapacity<Slot = DirectSlot<P::Gen, u32>> + Drop,
-    H: NonZeroInxGenericStack<Slot = DirectSlot<P::Gen, u32>> + Drop,
-    G: NonZeroInxGenericStack<Slot = DirectSlot<P::Gen, P>> + Drop,
-    M: SetMaxCapacity<Slot = DirectSlot<P::Gen, P>> + Drop,
-    K: NonZeroInxGenericStack<Slot = DirectSlot<P::Gen, P>> + Drop,
-> World<'t, P, F, L, H, G, M, K> {
+    P: Kind,
+    N: Answers<P> + AnswersWith<P, N> + AnswersWith<P, D> + Drop,
+    D: Answers<P> + AnswersWith<P, D> + Recasts<P> + Drop,
+> World<'t, P, N, D> {
     /// No arenas yet.
     pub(crate) fn new(heap: Global) -> Self {
         World {
@@ -52,15 +38,29 @@ impl<
         self.pointers.remove(name);
     }
 
-    fn one(&mut self, name: &[u8], call: &One<P>, out: &mut String) -> Result<(), Fault> {
-        if let Some(held) = self.numbers.get(name) {
-            return held.answer(self.heap, call, out);
+    fn one(&mut self, name: &[u8], call: One<P>, out: &mut String) -> Result<(), Fault> {
+        if let Some(arena) = self.numbers.get(name) {
+            return arena.answer(self.heap, call, out);
         }
-        let held = self.pointers.get(name).ok_or(Fault::Malformed)?;
-        if let One::Recast(p) = call {
-            return Ok(held.recast_one(*p, out)?);
+        let directory = self.pointers.get(name).ok_or(Fault::Malformed)?;
+        match call {
+            One::Recast(p) => Ok(directory.recast_one(p, out)?),
+            _ => directory.answer(self.heap, call, out),
         }
-        held.answer(self.heap, call, out)
+    }
+
+    fn list(
+        &mut self,
+        name: &[u8],
+        correction: Correction,
+        cited: &Cited<P>,
+        out: &mut String,
+    ) -> Result<(), Fault> {
+        if let Some(arena) = self.numbers.get(name) {
+            return arena.answer_list(self.heap, correction, cited, out);
+        }
+        let directory = self.pointers.get(name).ok_or(Fault::Malformed)?;
+        directory.answer_list(self.heap, correction, cited, out)
     }
 
     fn two(
@@ -71,13 +71,13 @@ impl<
         out: &mut String,
     ) -> Result<(), Fault> {
         if let Some((a, b)) = self.numbers.pair(first, second) {
-            return a.answer_alike(self.heap, b, call, out);
+            return a.answer_with(self.heap, b, call, out);
         }
         if let Some((a, b)) = self.pointers.pair(first, second) {
-            return a.answer_directories(self.heap, b, call, out);
+            return a.answer_with(self.heap, b, call, out);
         }
-        match (self.numbers.get(first), self.pointers.get(second), call) {
-            (Some(a), Some(b), Two::CompressInto(d)) => a.compress_to(self.heap, b, d, out),
+        match (self.numbers.get(first), self.pointers.get(second)) {
+            (Some(a), Some(b)) => a.answer_with(self.heap, b, call, out),
             _ => Err(Fault::Malformed),
         }
     }
@@ -90,10 +90,12 @@ impl<
         start: Start<P>,
         out: &mut String,
     ) -> Result<(), Fault> {
-        let advancer = match (self.numbers.get(arena), self.pointers.get(arena)) {
-            (Some(held), _) => held.begin(start),
-            (None, Some(held)) => held.begin(start),
-            (None, None) => return Err(Fault::Malformed),
+        let advancer = match self.numbers.get(arena) {
+            Some(arena) => arena.begin(start),
+            None => {
+                let directory = self.pointers.get(arena).ok_or(Fault::Malformed)?;
+                directory.begin(start)
+            }
         };
         self.advancers.retain(|other| other.0 != name);
         self.advancers
@@ -109,10 +111,12 @@ impl<
             .position(|other| other.0 == name)
             .ok_or(Fault::Malformed)?;
         let advancer = &mut self.advancers[place].1;
-        let given = match (self.numbers.get(arena), self.pointers.get(arena)) {
-            (Some(held), _) => held.advance(advancer),
-            (None, Some(held)) => held.advance(advancer),
-            (None, None) => return Err(Fault::Malformed),
+        let given = match self.numbers.get(arena) {
+            Some(arena) => arena.advance(advancer),
+            None => {
+                let directory = self.pointers.get(arena).ok_or(Fault::Malformed)?;
+                directory.advance(advancer)
+            }
         };
         match given {
             Some(p) => {
@@ -126,7 +130,12 @@ impl<
     /// Makes a call, and writes the answer to it.
     pub(crate) fn answer(&mut self, call: Call<'t, P>, out: &mut String) -> Result<(), Fault> {
         match call {
-            Call::OnOne { name, call } => self.one(name, &call, out),
+            Call::OnOne { name, call } => self.one(name, call, out),
+            Call::OnList {
+                name,
+                correction,
+                cited,
+            } => self.list(name, correction, &cited, out),
             Call::OnTwo {
                 first,
                 second,

@@ -1,12 +1,12 @@
 // The calls of a script.
 
 use crate::correction::Correction;
-use crate::held::Request;
 use crate::kind::Kind;
+use crate::request::Request;
 use crate::value::Datum;
 
 /// What an arena holds.
-#[derive(Clone, Copy, Debug, PartialEq, Eq)]
+#[derive(Clone, Copy)]
 pub enum Of {
     Numbers,
     Pointers,
@@ -27,6 +27,11 @@ pub enum Call<'t, P: Kind> {
         name: &'t [u8],
         call: One<P>,
     },
+    OnList {
+        name: &'t [u8],
+        correction: Correction,
+        cited: Cited<P>,
+    },
     OnTwo {
         first: &'t [u8],
         second: &'t [u8],
@@ -46,28 +51,51 @@ pub enum Call<'t, P: Kind> {
 /// A call on one arena.
 #[derive(Drop)]
 pub enum One<P: Kind> {
-    Insert(P, Datum<P>),
+    Ask(Question<P>),
+    Change(Change<P>),
+    ChangeAll(ChangeAll),
+    Limit(usize),
+    Recast(P),
+}
+
+/// What leaves the arena as it is.
+#[derive(Drop)]
+pub enum Question<P: Kind> {
     Get(P),
     Contains(P),
-    Edit(P, Datum<P>),
-    Remove(P),
-    Invalidate(P),
     GetInx(P::Inx),
-    EditInx(P::Inx, Datum<P>),
-    RemoveInx(P::Inx),
     First,
     Last,
     Capacity,
-    EditList(Correction, Vec<P::Inx>),
-    EditPointers(Correction, Vec<P>),
+    Dump,
+}
+
+/// A change of one record.
+#[derive(Drop)]
+pub enum Change<P: Kind> {
+    Insert(P, Datum<P>),
+    Edit(P, Datum<P>),
+    EditInx(P::Inx, Datum<P>),
+    Remove(P),
+    RemoveInx(P::Inx),
+    Invalidate(P),
+}
+
+/// A call on the arena as a whole.
+#[derive(Clone, Copy)]
+pub enum ChangeAll {
     Clear,
     Trim(usize),
     Reserve(usize),
-    Limit(usize),
     Compress(Correction),
-    Recast(P),
     Drain(usize),
-    Dump,
+}
+
+/// The records of a list edit.
+#[derive(Drop)]
+pub enum Cited<P: Kind> {
+    Indices(Vec<P::Inx>),
+    Pointers(Vec<P>),
 }
 
 /// A call on two arenas.

@@ -1,28 +1,17 @@
 // Calls on two arenas, and the answers to them.
 
-use crate::call::Two;
-use crate::correction::{Correction, Witness};
-use crate::kind::{Kind, write_pointer};
-use crate::one::{refusal, write_report, write_tail};
-use crate::value::Value;
-use crate::word::Fault;
+use crate::write::{refusal, write_room, write_tail};
 use arena::DirectArena;
-use directory::compress_into;
+use call_script::call::Two;
+use call_script::correction::{Correction, Witness};
+use call_script::kind::{Kind, write_pointer};
+use call_script::value::Value;
+use call_script::word::Fault;
+use directory::{DirectoryError, compress_into};
 use kinds::DirectSlot;
 use mapper::Recaster;
-use outcome::{ArenaReallocationError, DirectoryError};
 use stack::NonZeroInxGenericStack;
 use std::alloc::{AllocError, Global};
-
-fn write_verdict(
-    verdict: Result<(), ArenaReallocationError>,
-    out: &mut String,
-) -> Result<(), AllocError> {
-    match verdict {
-        Ok(()) => out.push_str("ok"),
-        Err(error) => write!(out, "{}", refusal(error)),
-    }
-}
 
 fn clone_from<
     P: Kind,
@@ -40,7 +29,7 @@ fn clone_from<
         return Err(Fault::Malformed);
     }
     let mut witness = Witness::new(heap, correction);
-    write_verdict(arena.clone_from_with(source, &mut witness), out)?;
+    write_room(arena.clone_from_with(source, &mut witness), out)?;
     Ok(write_tail(arena, out)?)
 }
 
@@ -62,7 +51,7 @@ fn transfer_from<
     }
     let mut witness = Witness::new(heap, correction);
     let verdict = arena.transfer_reallocating(generation, source, &mut witness);
-    write_verdict(verdict, out)?;
+    write_room(verdict, out)?;
     write_tail(arena, out)?;
     Ok(write_tail(source, out)?)
 }

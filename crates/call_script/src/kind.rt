@@ -1,7 +1,9 @@
 // Pointer kinds, as scripts write them.
 
-use crate::word::number;
-use kinds::{Ptr, PtrGen, PtrInx, PtrOf, SeasonGen, SheetInx, ShortInx, Unmarked};
+use crate::word::{Words, number};
+use kinds::{Ptr, PtrGen, PtrInx, PtrOf};
+use numbering::{SeasonGen, ShortInx, Unmarked};
+use sheets::SheetInx;
 use std::alloc::AllocError;
 use text::word::is_word;
 
@@ -12,7 +14,56 @@ pub struct Least {
     pub season: u32,
 }
 
-/// What a script writes as one field.
+/// The kinds that a section names: an index and a generation.
+#[derive(Clone, Copy)]
+pub enum Kinds {
+    ShortSeason,
+    ShortUnmarked,
+    SheetSeason,
+    SheetUnmarked,
+}
+
+fn is_short(inx: &[u8]) -> Option<bool> {
+    if is_word(inx, b"short") || is_word(inx, b"nz16") {
+        return Some(true);
+    }
+    is_word(inx, b"sheet").then_some(false)
+}
+
+fn is_marked(generation: &[u8]) -> Option<bool> {
+    if is_word(generation, b"season") || is_word(generation, b"season0") {
+        return Some(true);
+    }
+    is_word(generation, b"unmarked").then_some(false)
+}
+
+fn least_of(inx: &[u8], generation: &[u8]) -> Least {
+    Least {
+        index: u32::from(inx == b"nz16".as_slice()),
+        season: u32::from(generation == b"season".as_slice()),
+    }
+}
+
+impl Kinds {
+    /// The line that begins a section.
+    pub fn read(line: &[u8]) -> Option<(Kinds, Least)> {
+        let mut words = Words::new(line);
+        words.word()?;
+        let (inx, generation) = (words.word()?, words.word()?);
+        if !words.is_done() {
+            return None;
+        }
+        let kinds = match (is_short(inx)?, is_marked(generation)?) {
+            (true, true) => Kinds::ShortSeason,
+            (true, false) => Kinds::ShortUnmarked,
+            (false, true) => Kinds::SheetSeason,
+            (false, false) => Kinds::SheetUnmarked,
+        };
+        Some((kinds, least_of(inx, generation)))
+    }
+}
+
+/// What a script writes as one word.
 pub trait Written: Copy {
     fn read(text: &[u8], least: Least) -> Option<Self>;
 
@@ -93,13 +144,13 @@ impl<I: PtrInx + Written, G: PtrGen + Written> Kind for PtrOf<I, G> {
     }
 }
 
-/// A pointer of two fields.
-pub(crate) fn read_pointer<P: Kind>(inx: &[u8], generation: &[u8], least: Least) -> Option<P> {
+/// A pointer of two words.
+pub fn read_pointer<P: Kind>(inx: &[u8], generation: &[u8], least: Least) -> Option<P> {
     Some(P::from_raw(P::read_inx(inx, least)?, P::read_gen(generation, least)?))
 }
 
 /// A pointer as answers write it.
-pub(crate) fn write_pointer<P: Kind>(p: P, out: &mut String) -> Result<(), AllocError> {
+pub fn write_pointer<P: Kind>(p: P, out: &mut String) -> Result<(), AllocError> {
     P::write_inx(p.inx(), out)?;
     out.push_str("/")?;
     P::write_gen(p.generation(), out)
