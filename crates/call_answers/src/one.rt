@@ -54,17 +54,19 @@ fn change<P: Kind, V: Value<P>, S: NonZeroInxGenericStack<Slot = DirectSlot<P::G
     out: &mut String,
 ) -> Result<(), Fault> {
     match call {
-        Change::Insert(p, datum) => {
-            let value = V::of(datum).ok_or(Fault::Malformed)?;
-            write_insertion(arena.direct_insert_within_capacity(p, value), out)?;
+        Change::Insert(given) => {
+            let value = V::of(given.datum)?;
+            write_insertion(
+                arena.direct_insert_within_capacity(given.pointer, value),
+                out,
+            )?;
         }
-        Change::Edit(p, datum) => {
-            let value = V::of(datum).ok_or(Fault::Malformed)?;
-            write_value(arena.edit(p, value), out)?;
+        Change::Edit(given) => {
+            let value = V::of(given.datum)?;
+            write_value(arena.edit(given.pointer, value), out)?;
         }
         Change::EditInx(inx, datum) => {
-            let value = V::of(datum).ok_or(Fault::Malformed)?;
-            write_pair::<P, V>(arena.edit_inx(inx, value), out)?;
+            write_pair::<P, V>(arena.edit_inx(inx, V::of(datum)?), out)?
         }
         Change::Remove(p) => write_value(arena.remove(p).allow(), out)?,
         Change::RemoveInx(inx) => write_pair::<P, V>(arena.remove_inx(inx).allow(), out)?,
@@ -141,6 +143,26 @@ fn change_all<P: Kind, V: Value<P>, S: NonZeroInxGenericStack<Slot = DirectSlot<
     }
 }
 
+// A change, and the tail.
+fn changed<P: Kind, V: Value<P>, S: NonZeroInxGenericStack<Slot = DirectSlot<P::Gen, V>>>(
+    arena: &mut DirectArena<P, V, S>,
+    call: Change<P>,
+    out: &mut String,
+) -> Result<(), Fault> {
+    change(arena, call, out)?;
+    Ok(write_tail(arena, out)?)
+}
+
+fn all_changed<P: Kind, V: Value<P>, S: NonZeroInxGenericStack<Slot = DirectSlot<P::Gen, V>>>(
+    heap: Global,
+    arena: &mut DirectArena<P, V, S>,
+    call: ChangeAll,
+    out: &mut String,
+) -> Result<(), Fault> {
+    change_all(heap, arena, call, out)?;
+    Ok(write_tail(arena, out)?)
+}
+
 /// Makes a call that any arena has, and writes the answer to it.
 pub(crate) fn answer<P: Kind, V: Value<P>, S: NonZeroInxGenericStack<Slot = DirectSlot<P::Gen, V>>>(
     heap: Global,
@@ -149,12 +171,11 @@ pub(crate) fn answer<P: Kind, V: Value<P>, S: NonZeroInxGenericStack<Slot = Dire
     out: &mut String,
 ) -> Result<(), Fault> {
     match call {
-        One::Ask(question) => return Ok(ask(arena, question, out)?),
-        One::Change(call) => change(arena, call, out)?,
-        One::ChangeAll(call) => change_all(heap, arena, call, out)?,
-        One::Limit(_) | One::Recast(_) => return Err(Fault::Malformed),
+        One::Ask(question) => Ok(ask(arena, question, out)?),
+        One::Change(call) => changed(arena, call, out),
+        One::ChangeAll(call) => all_changed(heap, arena, call, out),
+        One::Limit(_) | One::Recast(_) => Err(Fault::Malformed),
     }
-    Ok(write_tail(arena, out)?)
 }
 
 /// Makes a list edit, and writes the answer to it.

@@ -70,11 +70,18 @@ pub enum Question<P: Kind> {
     Dump,
 }
 
+/// A pointer, and the value that its record gets.
+#[derive(Clone, Copy)]
+pub struct Given<P> {
+    pub pointer: P,
+    pub datum: Datum<P>,
+}
+
 /// A change of one record.
 #[derive(Drop)]
 pub enum Change<P: Kind> {
-    Insert(P, Datum<P>),
-    Edit(P, Datum<P>),
+    Insert(Given<P>),
+    Edit(Given<P>),
     EditInx(P::Inx, Datum<P>),
     Remove(P),
     RemoveInx(P::Inx),

@@ -45,21 +45,28 @@ fn least_of(inx: &[u8], generation: &[u8]) -> Least {
 }
 
 impl Kinds {
-    /// The line that begins a section.
-    pub fn read(line: &[u8]) -> Option<(Kinds, Least)> {
-        let mut words = Words::new(line);
-        words.word()?;
-        let (inx, generation) = (words.word()?, words.word()?);
-        if !words.is_done() {
-            return None;
-        }
-        let kinds = match (is_short(inx)?, is_marked(generation)?) {
+    fn of(short: bool, marked: bool) -> Kinds {
+        match (short, marked) {
             (true, true) => Kinds::ShortSeason,
             (true, false) => Kinds::ShortUnmarked,
             (false, true) => Kinds::SheetSeason,
             (false, false) => Kinds::SheetUnmarked,
-        };
+        }
+    }
+
+    fn read_words(words: &mut Words<'_>) -> Option<(Kinds, Least)> {
+        let inx = words.word()?;
+        let generation = words.word()?;
+        let kinds = Kinds::of(is_short(inx)?, is_marked(generation)?);
         Some((kinds, least_of(inx, generation)))
+    }
+
+    /// The line that begins a section.
+    pub fn read(line: &[u8]) -> Option<(Kinds, Least)> {
+        let mut words = Words::new(line);
+        words.word()?;
+        let read = Kinds::read_words(&mut words)?;
+        words.is_done().then_some(read)
     }
 }
 
@@ -81,11 +88,15 @@ impl Written for ShortInx {
     }
 }
 
+fn short_number(text: &[u8]) -> Option<u16> {
+    u16::try_from(number(text)?).ok()
+}
+
 impl Written for SheetInx {
     fn read(text: &[u8], _least: Least) -> Option<Self> {
         let dot = text.iter().position(|b| *b == b'.')?;
-        let sheet = u16::try_from(number(&text[..dot])?).ok()?;
-        let line = u16::try_from(number(&text[dot + 1..])?).ok()?;
+        let sheet = short_number(&text[..dot])?;
+        let line = short_number(&text[dot + 1..])?;
         Some(SheetInx { sheet, line })
     }
 

@@ -1,6 +1,6 @@
 // What a line of a script asks for.
 
-use crate::call::{Call, Change, ChangeAll, Cited, Making, Of, One, Question, Start, Two};
+use crate::call::{Call, Change, ChangeAll, Cited, Given, Making, Of, One, Question, Start, Two};
 use crate::correction::Correction;
 use crate::kind::{Kind, Least, read_pointer};
 use crate::request::Request;
@@ -37,66 +37,65 @@ fn datum<P: Kind>(of: Of, words: &mut Words<'_>, least: Least) -> Option<Datum<P
     }
 }
 
-fn question<P: Kind>(verb: Verb, words: &mut Words<'_>, least: Least) -> Option<Question<P>> {
+fn given<P: Kind>(of: Of, words: &mut Words<'_>, least: Least) -> Option<Given<P>> {
+    let pointer = pointer(words, least)?;
+    let datum = datum(of, words, least)?;
+    Some(Given { pointer, datum })
+}
+
+fn edit_inx<P: Kind>(of: Of, words: &mut Words<'_>, least: Least) -> Option<One<P>> {
+    let inx = index::<P>(words, least)?;
+    let datum = datum(of, words, least)?;
+    Some(One::Change(Change::EditInx(inx, datum)))
+}
+
+// Calls with nothing behind the name.
+fn bare<P: Kind>(verb: Verb) -> Option<One<P>> {
     match verb {
-        Verb::Get => Some(Question::Get(pointer(words, least)?)),
-        Verb::Contains => Some(Question::Contains(pointer(words, least)?)),
-        Verb::GetInx => Some(Question::GetInx(index::<P>(words, least)?)),
-        Verb::First => Some(Question::First),
-        Verb::Last => Some(Question::Last),
-        Verb::Capacity => Some(Question::Capacity),
-        Verb::Dump => Some(Question::Dump),
+        Verb::First => Some(One::Ask(Question::First)),
+        Verb::Last => Some(One::Ask(Question::Last)),
+        Verb::Capacity => Some(One::Ask(Question::Capacity)),
+        Verb::Dump => Some(One::Ask(Question::Dump)),
+        Verb::Clear => Some(One::ChangeAll(ChangeAll::Clear)),
         _ => None,
     }
 }
 
-fn change<P: Kind>(verb: Verb, words: &mut Words<'_>, least: Least) -> Option<Change<P>> {
+fn counting<P: Kind>(verb: Verb, amount: usize) -> Option<One<P>> {
     match verb {
-        Verb::Insert(of) => {
-            let p = pointer(words, least)?;
-            Some(Change::Insert(p, datum(of, words, least)?))
-        }
-        Verb::Edit(of) => {
-            let p = pointer(words, least)?;
-            Some(Change::Edit(p, datum(of, words, least)?))
-        }
-        Verb::EditInx(of) => {
-            let inx = index::<P>(words, least)?;
-            Some(Change::EditInx(inx, datum(of, words, least)?))
-        }
-        Verb::Remove => Some(Change::Remove(pointer(words, least)?)),
-        Verb::RemoveInx => Some(Change::RemoveInx(index::<P>(words, least)?)),
-        Verb::Invalidate => Some(Change::Invalidate(pointer(words, least)?)),
+        Verb::Trim => Some(One::ChangeAll(ChangeAll::Trim(amount))),
+        Verb::Reserve => Some(One::ChangeAll(ChangeAll::Reserve(amount))),
+        Verb::Drain => Some(One::ChangeAll(ChangeAll::Drain(amount))),
+        Verb::Limit => Some(One::Limit(amount)),
         _ => None,
     }
 }
 
-fn change_all(verb: Verb, words: &mut Words<'_>) -> Option<ChangeAll> {
+// Calls on the record that a pointer cites.
+fn citing<P: Kind>(verb: Verb, p: P) -> Option<One<P>> {
     match verb {
-        Verb::Clear => Some(ChangeAll::Clear),
-        Verb::Trim => Some(ChangeAll::Trim(amount(words)?)),
-        Verb::Reserve => Some(ChangeAll::Reserve(amount(words)?)),
-        Verb::Drain => Some(ChangeAll::Drain(amount(words)?)),
-        Verb::Compress => Some(ChangeAll::Compress(correction(words)?)),
+        Verb::Get => Some(One::Ask(Question::Get(p))),
+        Verb::Contains => Some(One::Ask(Question::Contains(p))),
+        Verb::Remove => Some(One::Change(Change::Remove(p))),
+        Verb::Invalidate => Some(One::Change(Change::Invalidate(p))),
+        Verb::Recast => Some(One::Recast(p)),
         _ => None,
     }
 }
 
 fn on_one<P: Kind>(verb: Verb, words: &mut Words<'_>, least: Least) -> Option<One<P>> {
     match verb {
-        Verb::Limit => Some(One::Limit(amount(words)?)),
-        Verb::Recast => Some(One::Recast(pointer(words, least)?)),
-        Verb::Get
-        | Verb::Contains
-        | Verb::GetInx
-        | Verb::First
-        | Verb::Last
-        | Verb::Capacity
-        | Verb::Dump => Some(One::Ask(question(verb, words, least)?)),
-        Verb::Clear | Verb::Trim | Verb::Reserve | Verb::Drain | Verb::Compress => {
-            Some(One::ChangeAll(change_all(verb, words)?))
+        Verb::Insert(of) => Some(One::Change(Change::Insert(given(of, words, least)?))),
+        Verb::Edit(of) => Some(One::Change(Change::Edit(given(of, words, least)?))),
+        Verb::EditInx(of) => edit_inx(of, words, least),
+        Verb::GetInx => Some(One::Ask(Question::GetInx(index::<P>(words, least)?))),
+        Verb::RemoveInx => Some(One::Change(Change::RemoveInx(index::<P>(words, least)?))),
+        Verb::Trim | Verb::Reserve | Verb::Drain | Verb::Limit => counting(verb, amount(words)?),
+        Verb::Compress => Some(One::ChangeAll(ChangeAll::Compress(correction(words)?))),
+        Verb::Get | Verb::Contains | Verb::Remove | Verb::Invalidate | Verb::Recast => {
+            citing(verb, pointer(words, least)?)
         }
-        _ => Some(One::Change(change(verb, words, least)?)),
+        _ => bare(verb),
     }
 }
 
@@ -126,13 +125,16 @@ fn pointers<P: Kind>(heap: Global, words: &mut Words<'_>, least: Least) -> Resul
     Ok(list)
 }
 
+fn transfer<P: Kind>(words: &mut Words<'_>, least: Least) -> Option<Two<P>> {
+    let generation = P::read_gen(words.word()?, least)?;
+    let correction = correction(words)?;
+    Some(Two::TransferFrom(generation, correction))
+}
+
 fn on_two<P: Kind>(verb: Verb, words: &mut Words<'_>, least: Least) -> Option<Two<P>> {
     match verb {
         Verb::Clone => Some(Two::CloneFrom(correction(words)?)),
-        Verb::Transfer => {
-            let generation = P::read_gen(words.word()?, least)?;
-            Some(Two::TransferFrom(generation, correction(words)?))
-        }
+        Verb::Transfer => transfer(words, least),
         Verb::CompressInto => Some(Two::CompressInto(correction(words)?)),
         Verb::RecastArena => Some(Two::RecastBy),
         Verb::Join => Some(Two::JoinWith),
@@ -167,7 +169,16 @@ pub fn making(line: &[u8]) -> Option<Making<'_>> {
     words.is_done().then_some(Making { name, of, request })
 }
 
-// A call on two arenas, or of an advancer and an arena.
+fn naming_one<'t, P: Kind>(
+    verb: Verb,
+    name: &'t [u8],
+    words: &mut Words<'t>,
+    least: Least,
+) -> Option<Call<'t, P>> {
+    let call = on_one(verb, words, least)?;
+    Some(Call::OnOne { name, call })
+}
+
 fn naming_two<'t, P: Kind>(
     verb: Verb,
     first: &'t [u8],
@@ -175,22 +186,31 @@ fn naming_two<'t, P: Kind>(
     least: Least,
 ) -> Option<Call<'t, P>> {
     let second = words.word()?;
-    match verb {
-        Verb::Begin => Some(Call::Begin {
-            advancer: first,
-            arena: second,
-            start: start(words, least)?,
-        }),
-        Verb::Advance => Some(Call::Advance {
-            advancer: first,
-            arena: second,
-        }),
-        _ => Some(Call::OnTwo {
-            first,
-            second,
-            call: on_two(verb, words, least)?,
-        }),
-    }
+    let call = on_two(verb, words, least)?;
+    Some(Call::OnTwo {
+        first,
+        second,
+        call,
+    })
+}
+
+fn begin<'t, P: Kind>(
+    advancer: &'t [u8],
+    words: &mut Words<'t>,
+    least: Least,
+) -> Option<Call<'t, P>> {
+    let arena = words.word()?;
+    let start = start(words, least)?;
+    Some(Call::Begin {
+        advancer,
+        arena,
+        start,
+    })
+}
+
+fn advance<'t, P: Kind>(advancer: &'t [u8], words: &mut Words<'t>) -> Option<Call<'t, P>> {
+    let arena = words.word()?;
+    Some(Call::Advance { advancer, arena })
 }
 
 // A list edit: a correction, and then the records.
@@ -220,27 +240,29 @@ fn call<'t, P: Kind>(
     words: &mut Words<'t>,
     least: Least,
 ) -> Result<Call<'t, P>, Fault> {
-    match verb {
-        Verb::EditList | Verb::EditPointers => on_list(heap, verb, name, words, least),
-        Verb::Clone
-        | Verb::Transfer
-        | Verb::CompressInto
-        | Verb::RecastArena
-        | Verb::Join
-        | Verb::Begin
-        | Verb::Advance => naming_two(verb, name, words, least).ok_or(Fault::Malformed),
-        _ => {
-            let call = on_one(verb, words, least).ok_or(Fault::Malformed)?;
-            Ok(Call::OnOne { name, call })
+    let call = match verb {
+        Verb::EditList | Verb::EditPointers => return on_list(heap, verb, name, words, least),
+        Verb::Begin => begin(name, words, least),
+        Verb::Advance => advance(name, words),
+        Verb::Clone | Verb::Transfer | Verb::CompressInto | Verb::RecastArena | Verb::Join => {
+            naming_two(verb, name, words, least)
         }
-    }
+        _ => naming_one(verb, name, words, least),
+    };
+    call.ok_or(Fault::Malformed)
+}
+
+// The first word, and the name behind it.
+fn opening<'t>(words: &mut Words<'t>) -> Option<(Verb, &'t [u8])> {
+    let verb = Verb::read(words.word()?)?;
+    let name = words.word()?;
+    Some((verb, name))
 }
 
 /// The call that any other line asks for.
 pub fn parse<P: Kind>(heap: Global, line: &[u8], least: Least) -> Result<Call<'_, P>, Fault> {
     let mut words = Words::new(line);
-    let verb = words.word().and_then(Verb::read).ok_or(Fault::Malformed)?;
-    let name = words.word().ok_or(Fault::Malformed)?;
+    let (verb, name) = opening(&mut words).ok_or(Fault::Malformed)?;
     let call = call(heap, verb, name, &mut words, least)?;
     if words.is_done() {
         return Ok(call);

@@ -12,22 +12,22 @@ pub enum Request {
 }
 
 impl Request {
+    fn with(stack: &[u8], capacity: usize) -> Option<Request> {
+        if is_word(stack, b"fixed") {
+            Some(Request::Fixed(capacity))
+        } else if is_word(stack, b"limited") {
+            Some(Request::Limited(capacity))
+        } else {
+            is_word(stack, b"heap").then_some(Request::Heap(Some(capacity)))
+        }
+    }
+
     /// The last words of a line that makes an arena.
     pub fn read(words: &mut Words<'_>) -> Option<Request> {
         let stack = words.word()?;
-        let capacity = words.word();
-        if is_word(stack, b"fixed") {
-            return Some(Request::Fixed(count(capacity?)?));
-        }
-        if is_word(stack, b"limited") {
-            return Some(Request::Limited(count(capacity?)?));
-        }
-        if !is_word(stack, b"heap") {
-            return None;
-        }
-        match capacity {
-            Some(capacity) => Some(Request::Heap(Some(count(capacity)?))),
-            None => Some(Request::Heap(None)),
+        match words.word() {
+            Some(capacity) => Request::with(stack, count(capacity)?),
+            None => is_word(stack, b"heap").then_some(Request::Heap(None)),
         }
     }
 }
