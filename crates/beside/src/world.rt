@@ -38,13 +38,13 @@ impl<
         self.pointers.remove(name);
     }
 
-    fn one(&mut self, name: &[u8], call: One<P>, out: &mut String) -> Result<(), Fault> {
+    fn one(&mut self, name: &[u8], call: &One<P>, out: &mut String) -> Result<(), Fault> {
         if let Some(arena) = self.numbers.get(name) {
             return arena.answer(self.heap, call, out);
         }
         let directory = self.pointers.get(name).ok_or(Fault::Malformed)?;
         match call {
-            One::Recast(p) => Ok(directory.recast_one(p, out)?),
+            One::Recast(p) => Ok(directory.recast_one(*p, out)?),
             _ => directory.answer(self.heap, call, out),
         }
     }
@@ -130,7 +130,7 @@ impl<
     /// Makes a call, and writes the answer to it.
     pub(crate) fn answer(&mut self, call: Call<'t, P>, out: &mut String) -> Result<(), Fault> {
         match call {
-            Call::OnOne { name, call } => self.one(name, call, out),
+            Call::OnOne { name, call } => self.one(name, &call, out),
             Call::OnList {
                 name,
                 correction,

@@ -22,7 +22,7 @@ pub trait Answers<P: Kind> {
 
     fn advance(&self, advancer: &mut PtrAdvancer<P>) -> Option<P>;
 
-    fn answer(&mut self, heap: Global, call: One<P>, out: &mut String) -> Result<(), Fault>;
+    fn answer(&mut self, heap: Global, call: &One<P>, out: &mut String) -> Result<(), Fault>;
 
     fn answer_list(
         &mut self,
@@ -72,7 +72,7 @@ impl<P: Kind, V: Value<P>, S: NonZeroInxGenericStack<Slot = DirectSlot<P::Gen, V
         advancer.advance(self)
     }
 
-    fn answer(&mut self, heap: Global, call: One<P>, out: &mut String) -> Result<(), Fault> {
+    fn answer(&mut self, heap: Global, call: &One<P>, out: &mut String) -> Result<(), Fault> {
         answer(heap, self, call, out)
     }
 

@@ -43,8 +43,8 @@ impl<P: Kind, F: Answers<P>, L: Answers<P> + Limits, H: Answers<P>> Answers<P> f
     }
 
     // A maximum can be set over a limited stack alone.
-    fn answer(&mut self, heap: Global, call: One<P>, out: &mut String) -> Result<(), Fault> {
-        if let (One::Limit(most), Held::Limited(arena)) = (&call, &mut *self) {
+    fn answer(&mut self, heap: Global, call: &One<P>, out: &mut String) -> Result<(), Fault> {
+        if let (One::Limit(most), Held::Limited(arena)) = (call, &mut *self) {
             return Ok(arena.limit(*most, out)?);
         }
         over!(self, arena => arena.answer(heap, call, out))

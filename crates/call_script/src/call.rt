@@ -52,8 +52,10 @@ pub enum Call<'t, P: Kind> {
 #[derive(Drop)]
 pub enum One<P: Kind> {
     Ask(Question<P>),
-    Change(Change<P>),
+    Give(Giving<P>, Datum<P>),
+    Take(Taking<P>),
     ChangeAll(ChangeAll),
+    Compress(Correction),
     Limit(usize),
     Recast(P),
 }
@@ -70,31 +72,28 @@ pub enum Question<P: Kind> {
     Dump,
 }
 
-/// A pointer, and the value that its record gets.
-#[derive(Clone, Copy)]
-pub struct Given<P> {
-    pub pointer: P,
-    pub datum: Datum<P>,
+/// What gives a record a value.
+#[derive(Drop)]
+pub enum Giving<P: Kind> {
+    Insert(P),
+    Edit(P),
+    EditInx(P::Inx),
 }
 
-/// A change of one record.
+/// What takes a record out, or its pointer from whoever has it.
 #[derive(Drop)]
-pub enum Change<P: Kind> {
-    Insert(Given<P>),
-    Edit(Given<P>),
-    EditInx(P::Inx, Datum<P>),
+pub enum Taking<P: Kind> {
     Remove(P),
     RemoveInx(P::Inx),
     Invalidate(P),
 }
 
-/// A call on the arena as a whole.
+/// What changes the arena as a whole, with no mapper.
 #[derive(Clone, Copy)]
 pub enum ChangeAll {
     Clear,
     Trim(usize),
     Reserve(usize),
-    Compress(Correction),
     Drain(usize),
 }
 

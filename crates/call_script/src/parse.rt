@@ -1,6 +1,6 @@
 // What a line of a script asks for.
 
-use crate::call::{Call, Change, ChangeAll, Cited, Given, Making, Of, One, Question, Start, Two};
+use crate::call::{Call, ChangeAll, Cited, Giving, Making, Of, One, Question, Start, Taking, Two};
 use crate::correction::Correction;
 use crate::kind::{Kind, Least, read_pointer};
 use crate::request::Request;
@@ -37,16 +37,14 @@ fn datum<P: Kind>(of: Of, words: &mut Words<'_>, least: Least) -> Option<Datum<P
     }
 }
 
-fn given<P: Kind>(of: Of, words: &mut Words<'_>, least: Least) -> Option<Given<P>> {
-    let pointer = pointer(words, least)?;
+fn given<P: Kind>(
+    giving: Giving<P>,
+    of: Of,
+    words: &mut Words<'_>,
+    least: Least,
+) -> Option<One<P>> {
     let datum = datum(of, words, least)?;
-    Some(Given { pointer, datum })
-}
-
-fn edit_inx<P: Kind>(of: Of, words: &mut Words<'_>, least: Least) -> Option<One<P>> {
-    let inx = index::<P>(words, least)?;
-    let datum = datum(of, words, least)?;
-    Some(One::Change(Change::EditInx(inx, datum)))
+    Some(One::Give(giving, datum))
 }
 
 // Calls with nothing behind the name.
@@ -76,8 +74,8 @@ fn citing<P: Kind>(verb: Verb, p: P) -> Option<One<P>> {
     match verb {
         Verb::Get => Some(One::Ask(Question::Get(p))),
         Verb::Contains => Some(One::Ask(Question::Contains(p))),
-        Verb::Remove => Some(One::Change(Change::Remove(p))),
-        Verb::Invalidate => Some(One::Change(Change::Invalidate(p))),
+        Verb::Remove => Some(One::Take(Taking::Remove(p))),
+        Verb::Invalidate => Some(One::Take(Taking::Invalidate(p))),
         Verb::Recast => Some(One::Recast(p)),
         _ => None,
     }
@@ -85,13 +83,13 @@ fn citing<P: Kind>(verb: Verb, p: P) -> Option<One<P>> {
 
 fn on_one<P: Kind>(verb: Verb, words: &mut Words<'_>, least: Least) -> Option<One<P>> {
     match verb {
-        Verb::Insert(of) => Some(One::Change(Change::Insert(given(of, words, least)?))),
-        Verb::Edit(of) => Some(One::Change(Change::Edit(given(of, words, least)?))),
-        Verb::EditInx(of) => edit_inx(of, words, least),
+        Verb::Insert(of) => given(Giving::Insert(pointer(words, least)?), of, words, least),
+        Verb::Edit(of) => given(Giving::Edit(pointer(words, least)?), of, words, least),
+        Verb::EditInx(of) => given(Giving::EditInx(index::<P>(words, least)?), of, words, least),
         Verb::GetInx => Some(One::Ask(Question::GetInx(index::<P>(words, least)?))),
-        Verb::RemoveInx => Some(One::Change(Change::RemoveInx(index::<P>(words, least)?))),
+        Verb::RemoveInx => Some(One::Take(Taking::RemoveInx(index::<P>(words, least)?))),
         Verb::Trim | Verb::Reserve | Verb::Drain | Verb::Limit => counting(verb, amount(words)?),
-        Verb::Compress => Some(One::ChangeAll(ChangeAll::Compress(correction(words)?))),
+        Verb::Compress => Some(One::Compress(correction(words)?)),
         Verb::Get | Verb::Contains | Verb::Remove | Verb::Invalidate | Verb::Recast => {
             citing(verb, pointer(words, least)?)
         }
