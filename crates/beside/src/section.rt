@@ -2,7 +2,8 @@
 
 use crate::pool::Lends;
 use crate::world::World;
-use call_answers::answers::{Answers, AnswersWith, Recasts};
+use arena::advancer::PtrAdvancer;
+use call_answers::answers::{Answers, AnswersWith, Recasts, Walks};
 use call_script::call::{Making, Of};
 use call_script::kind::{Kind, Least};
 use call_script::parse::{making, parse};
@@ -39,8 +40,8 @@ fn make<P: Kind, A: Answers<P> + Drop, L: Lends<A>>(
 impl<
     't,
     P: Kind,
-    N: Answers<P> + AnswersWith<P, N> + AnswersWith<P, D> + Drop,
-    D: Answers<P> + AnswersWith<P, D> + Recasts<P> + Drop,
+    N: Answers<P> + Walks<P, PtrAdvancer<P>> + AnswersWith<P, N> + AnswersWith<P, D> + Drop,
+    D: Answers<P> + Walks<P, PtrAdvancer<P>> + AnswersWith<P, D> + Recasts<P> + Drop,
     L: Lends<N> + Drop,
     M: Lends<D> + Drop,
 > Section<'t, P, N, D, L, M> {

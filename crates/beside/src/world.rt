@@ -2,7 +2,7 @@
 
 use crate::shelf::Shelf;
 use arena::advancer::PtrAdvancer;
-use call_answers::answers::{Answers, AnswersWith, Recasts};
+use call_answers::answers::{Answers, AnswersWith, Recasts, Walks};
 use call_script::call::{Call, Cited, One, Start, Two};
 use call_script::correction::Correction;
 use call_script::kind::{Kind, write_pointer};
@@ -20,8 +20,8 @@ pub struct World<'t, P: Kind, N, D> {
 impl<
     't,
     P: Kind,
-    N: Answers<P> + AnswersWith<P, N> + AnswersWith<P, D> + Drop,
-    D: Answers<P> + AnswersWith<P, D> + Recasts<P> + Drop,
+    N: Answers<P> + Walks<P, PtrAdvancer<P>> + AnswersWith<P, N> + AnswersWith<P, D> + Drop,
+    D: Answers<P> + Walks<P, PtrAdvancer<P>> + AnswersWith<P, D> + Recasts<P> + Drop,
 > World<'t, P, N, D> {
     /// No arenas yet.
     pub(crate) fn new(heap: Global) -> Self {

@@ -18,10 +18,6 @@ use std::alloc::{AllocError, Global};
 pub trait Answers<P: Kind> {
     fn write_tail(&self, out: &mut String) -> Result<(), AllocError>;
 
-    fn begin(&self, start: Start<P>) -> PtrAdvancer<P>;
-
-    fn advance(&self, advancer: &mut PtrAdvancer<P>) -> Option<P>;
-
     fn answer(&mut self, heap: Global, call: &One<P>, out: &mut String) -> Result<(), Fault>;
 
     fn answer_list(
@@ -31,6 +27,13 @@ pub trait Answers<P: Kind> {
         cited: &Cited<P>,
         out: &mut String,
     ) -> Result<(), Fault>;
+}
+
+/// Is walked by advancers of type `A`.
+pub trait Walks<P: Kind, A> {
+    fn begin(&self, start: Start<P>) -> A;
+
+    fn advance(&self, advancer: &mut A) -> Option<P>;
 }
 
 /// Has a maximum that can be set.
@@ -60,18 +63,6 @@ impl<P: Kind, V: Value<P>, S: NonZeroInxGenericStack<Slot = DirectSlot<P::Gen, V
         write_tail(self, out)
     }
 
-    fn begin(&self, start: Start<P>) -> PtrAdvancer<P> {
-        match start {
-            Start::Forward => self.advancer(),
-            Start::Backward => self.rev_advancer(),
-            Start::At { inx, rev } => self.advancer_inx(inx, rev),
-        }
-    }
-
-    fn advance(&self, advancer: &mut PtrAdvancer<P>) -> Option<P> {
-        advancer.advance(self)
-    }
-
     fn answer(&mut self, heap: Global, call: &One<P>, out: &mut String) -> Result<(), Fault> {
         answer(heap, self, call, out)
     }
@@ -84,6 +75,23 @@ impl<P: Kind, V: Value<P>, S: NonZeroInxGenericStack<Slot = DirectSlot<P::Gen, V
         out: &mut String,
     ) -> Result<(), Fault> {
         answer_list(heap, self, correction, cited, out)
+    }
+}
+
+impl<P: Kind, V: Value<P>, S: NonZeroInxGenericStack<Slot = DirectSlot<P::Gen, V>>> Walks<
+    P,
+    PtrAdvancer<P>,
+> for DirectArena<P, V, S> {
+    fn begin(&self, start: Start<P>) -> PtrAdvancer<P> {
+        match start {
+            Start::Forward => self.advancer(),
+            Start::Backward => self.rev_advancer(),
+            Start::At { inx, rev } => self.advancer_inx(inx, rev),
+        }
+    }
+
+    fn advance(&self, advancer: &mut PtrAdvancer<P>) -> Option<P> {
+        advancer.advance(self)
     }
 }
 

@@ -1,8 +1,7 @@
 // An arena that stands over one of three stacks.
 
-use crate::answers::{Answers, AnswersWith, Limits, Recasts};
+use crate::answers::{Answers, AnswersWith, Limits, Recasts, Walks};
 use arena::DirectArena;
-use arena::advancer::PtrAdvancer;
 use call_script::call::{Cited, One, Start, Two};
 use call_script::correction::Correction;
 use call_script::kind::Kind;
@@ -34,14 +33,6 @@ impl<P: Kind, F: Answers<P>, L: Answers<P> + Limits, H: Answers<P>> Answers<P> f
         over!(self, arena => arena.write_tail(out))
     }
 
-    fn begin(&self, start: Start<P>) -> PtrAdvancer<P> {
-        over!(self, arena => arena.begin(start))
-    }
-
-    fn advance(&self, advancer: &mut PtrAdvancer<P>) -> Option<P> {
-        over!(self, arena => arena.advance(advancer))
-    }
-
     // A maximum can be set over a limited stack alone.
     fn answer(&mut self, heap: Global, call: &One<P>, out: &mut String) -> Result<(), Fault> {
         if let (One::Limit(most), Held::Limited(arena)) = (call, &mut *self) {
@@ -58,6 +49,16 @@ impl<P: Kind, F: Answers<P>, L: Answers<P> + Limits, H: Answers<P>> Answers<P> f
         out: &mut String,
     ) -> Result<(), Fault> {
         over!(self, arena => arena.answer_list(heap, correction, cited, out))
+    }
+}
+
+impl<P: Kind, A, F: Walks<P, A>, L: Walks<P, A>, H: Walks<P, A>> Walks<P, A> for Held<F, L, H> {
+    fn begin(&self, start: Start<P>) -> A {
+        over!(self, arena => arena.begin(start))
+    }
+
+    fn advance(&self, advancer: &mut A) -> Option<P> {
+        over!(self, arena => arena.advance(advancer))
     }
 }
 
