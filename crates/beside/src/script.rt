@@ -1,13 +1,19 @@
 // A script from its first line to its last: one answer line for each.
 
-use crate::pool::{Arena, Pool, slots_of};
-use crate::section::Section;
+use crate::pool::{Lends, Pool, slots_of};
+use crate::section::{Calls, answer_all};
+use arena::DirectArena;
+use call_answers::held::Held;
 use call_script::call::Of;
 use call_script::kind::{Kind, Kinds, Least, Written};
 use call_script::parse::making;
+use heap_stack::HeapStack;
 use kinds::{DirectSlot, PtrGen, PtrInx, PtrOf};
+use limited::LimitedStack;
 use numbering::{SeasonGen, ShortInx, Unmarked};
 use sheets::SheetInx;
+use slab_stack::SlabStack;
+use stack::{FixedStack, NonZeroInxGenericStack, SetMaxCapacity};
 use std::alloc::{AllocError, Global};
 use text::split::Lines;
 
@@ -42,32 +48,76 @@ fn wanted<P: Kind>(lines: &[&[u8]]) -> SlotsWanted {
     wanted
 }
 
-// The arenas of a script.
-type Numbers<'a, I, G> = Arena<'a, PtrOf<I, G>, u32>;
+// An arena over one of three stacks.
+type Any<I, G, V, F, L, H> = Held<
+    DirectArena<PtrOf<I, G>, V, F>,
+    DirectArena<PtrOf<I, G>, V, L>,
+    DirectArena<PtrOf<I, G>, V, H>,
+>;
 
-type Directory<'a, I, G> = Arena<'a, PtrOf<I, G>, PtrOf<I, G>>;
+// The calls of a section whose arenas are made of these pools. It is generic in the stacks, so that the check builds what
+// three of them mean together once, and of stacks without a name.
+fn answer_over<
+    I: PtrInx + Written,
+    G: PtrGen + Written,
+    F: NonZeroInxGenericStack<Slot = DirectSlot<G, u32>> + Drop,
+    L: SetMaxCapacity<Slot = DirectSlot<G, u32>> + Drop,
+    H: NonZeroInxGenericStack<Slot = DirectSlot<G, u32>> + Drop,
+    T: NonZeroInxGenericStack<Slot = DirectSlot<G, PtrOf<I, G>>> + Drop,
+    M: SetMaxCapacity<Slot = DirectSlot<G, PtrOf<I, G>>> + Drop,
+    K: NonZeroInxGenericStack<Slot = DirectSlot<G, PtrOf<I, G>>> + Drop,
+    A: Lends<Any<I, G, u32, F, L, H>> + Drop,
+    B: Lends<Any<I, G, PtrOf<I, G>, T, M, K>> + Drop,
+>(
+    heap: Global,
+    numbers: A,
+    pointers: B,
+    calls: Calls<'_>,
+    out: &mut String,
+) -> Result<(), AllocError> {
+    answer_all::<PtrOf<I, G>, Any<I, G, u32, F, L, H>, Any<I, G, PtrOf<I, G>, T, M, K>, A, B>(
+        heap, numbers, pointers, calls, out,
+    )
+}
+
+fn answer_calls<'a, I: PtrInx + Written, G: PtrGen + Written>(
+    heap: Global,
+    numbers: Pool<'a, DirectSlot<G, u32>>,
+    pointers: Pool<'a, DirectSlot<G, PtrOf<I, G>>>,
+    calls: Calls<'_>,
+    out: &mut String,
+) -> Result<(), AllocError> {
+    answer_over::<
+        I,
+        G,
+        FixedStack<'a, DirectSlot<G, u32>>,
+        LimitedStack<SlabStack<'a, DirectSlot<G, u32>>>,
+        HeapStack<DirectSlot<G, u32>, Global>,
+        FixedStack<'a, DirectSlot<G, PtrOf<I, G>>>,
+        LimitedStack<SlabStack<'a, DirectSlot<G, PtrOf<I, G>>>>,
+        HeapStack<DirectSlot<G, PtrOf<I, G>>, Global>,
+        _,
+        _,
+    >(heap, numbers, pointers, calls, out)
+}
 
 // Lends a section its slots, and answers its calls.
 fn answer_section<I: PtrInx + Written, G: PtrGen + Written>(
     heap: Global,
-    lines: &[&[u8]],
-    number: usize,
-    least: Least,
+    calls: Calls<'_>,
     out: &mut String,
 ) -> Result<(), AllocError> {
-    let wanted = wanted::<PtrOf<I, G>>(lines);
-    let free: DirectSlot<G, u32> = DirectSlot::Free;
-    let mut numbers = vec![in heap; free; wanted.numbers]?;
-    let free: DirectSlot<G, PtrOf<I, G>> = DirectSlot::Free;
-    let mut pointers = vec![in heap; free; wanted.pointers]?;
+    let wanted = wanted::<PtrOf<I, G>>(calls.lines);
+    let mut numbers = vec![in heap; DirectSlot::Free; wanted.numbers]?;
+    let mut pointers = vec![in heap; DirectSlot::Free; wanted.pointers]?;
     out.push_str("ok\n")?;
-    let mut section = Section::<PtrOf<I, G>, Numbers<I, G>, Directory<I, G>, _, _>::new(
+    answer_calls::<I, G>(
         heap,
         Pool::new(numbers.as_mut_slice()),
         Pool::new(pointers.as_mut_slice()),
-        least,
-    );
-    section.answer_lines(lines, number, out)
+        calls,
+        out,
+    )
 }
 
 // A line that names the kinds begins a section, whether or not there are such kinds.
@@ -86,19 +136,16 @@ fn answer_kinds(
     let Some((kinds, least)) = Kinds::read(first) else {
         return Ok(false);
     };
+    let calls = Calls {
+        lines,
+        number,
+        least,
+    };
     match kinds {
-        Kinds::ShortSeason => {
-            answer_section::<ShortInx, SeasonGen>(heap, lines, number, least, out)?
-        }
-        Kinds::ShortUnmarked => {
-            answer_section::<ShortInx, Unmarked>(heap, lines, number, least, out)?
-        }
-        Kinds::SheetSeason => {
-            answer_section::<SheetInx, SeasonGen>(heap, lines, number, least, out)?
-        }
-        Kinds::SheetUnmarked => {
-            answer_section::<SheetInx, Unmarked>(heap, lines, number, least, out)?
-        }
+        Kinds::ShortSeason => answer_section::<ShortInx, SeasonGen>(heap, calls, out)?,
+        Kinds::ShortUnmarked => answer_section::<ShortInx, Unmarked>(heap, calls, out)?,
+        Kinds::SheetSeason => answer_section::<SheetInx, SeasonGen>(heap, calls, out)?,
+        Kinds::SheetUnmarked => answer_section::<SheetInx, Unmarked>(heap, calls, out)?,
     }
     Ok(true)
 }

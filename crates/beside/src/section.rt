@@ -11,9 +11,17 @@ use call_script::request::Request;
 use call_script::word::Fault;
 use std::alloc::{AllocError, Global};
 
+/// The lines of a section, of which the first is line `number` of the whole.
+#[derive(Clone, Copy)]
+pub struct Calls<'t> {
+    pub lines: &'t [&'t [u8]],
+    pub number: usize,
+    pub least: Least,
+}
+
 /// The arenas of a section, and the slots that new ones are lent.
 #[derive(Drop)]
-pub struct Section<'t, P: Kind, N, D, L, M> {
+struct Section<'t, P: Kind, N, D, L, M> {
     heap: Global,
     world: World<'t, P, N, D>,
     numbers: L,
@@ -37,6 +45,20 @@ fn make<P: Kind, A: Answers<P> + Drop, L: Lends<A>>(
     Ok(Some(arena))
 }
 
+// The answer of a line, or that it has none.
+fn write_answer(
+    answered: Result<(), Fault>,
+    answer: &str,
+    number: usize,
+    out: &mut String,
+) -> Result<(), AllocError> {
+    match answered {
+        Ok(()) => writeln!(out, "{answer}"),
+        Err(Fault::Malformed) => writeln!(out, "bad line {number}"),
+        Err(Fault::NoMemory) => Err(AllocError),
+    }
+}
+
 impl<
     't,
     P: Kind,
@@ -45,8 +67,8 @@ impl<
     L: Lends<N> + Drop,
     M: Lends<D> + Drop,
 > Section<'t, P, N, D, L, M> {
-    /// No arenas yet, and pools for those of numbers and for directories.
-    pub(crate) fn new(heap: Global, numbers: L, pointers: M, least: Least) -> Self {
+    // No arenas yet, and pools for those of numbers and for directories.
+    fn new(heap: Global, numbers: L, pointers: M, least: Least) -> Self {
         Section {
             heap,
             world: World::new(heap),
@@ -58,19 +80,16 @@ impl<
 
     // Makes an arena; one of that name is replaced.
     fn answer_making(&mut self, making: Making<'t>, out: &mut String) -> Result<(), AllocError> {
+        let (name, request) = (making.name, making.request);
         match making.of {
             Of::Numbers => {
-                let made = make::<P, N, L>(self.heap, &mut self.numbers, making.request, out)?;
-                if let Some(arena) = made {
-                    self.world.remove(making.name);
-                    self.world.numbers.put(making.name, arena)?;
+                if let Some(arena) = make::<P, N, L>(self.heap, &mut self.numbers, request, out)? {
+                    self.world.put_numbers(name, arena)?;
                 }
             }
             Of::Pointers => {
-                let made = make::<P, D, M>(self.heap, &mut self.pointers, making.request, out)?;
-                if let Some(arena) = made {
-                    self.world.remove(making.name);
-                    self.world.pointers.put(making.name, arena)?;
+                if let Some(arena) = make::<P, D, M>(self.heap, &mut self.pointers, request, out)? {
+                    self.world.put_pointers(name, arena)?;
                 }
             }
         }
@@ -86,23 +105,43 @@ impl<
         self.world.answer(call, out)
     }
 
-    /// The calls of a section; the first of them is line `number` of the whole.
-    pub(crate) fn answer_lines(
+    // The first of the lines is line `number` of the whole.
+    fn answer_lines(
         &mut self,
         lines: &[&'t [u8]],
         number: usize,
         out: &mut String,
     ) -> Result<(), AllocError> {
-        for (place, line) in lines.iter().enumerate() {
+        let mut number = number;
+        for line in lines {
             let mut answer = String::new(self.heap);
-            match self.answer_line(line, &mut answer) {
-                Ok(()) => writeln!(out, "{answer}")?,
-                Err(Fault::Malformed) => {
-                    writeln!(out, "bad line {}", number.saturating_add(place))?
-                }
-                Err(Fault::NoMemory) => return Err(AllocError),
-            }
+            let answered = self.answer_line(line, &mut answer);
+            write_answer(answered, &answer, number, out)?;
+            number = number.saturating_add(1);
         }
         Ok(())
     }
+}
+
+/// Answers the calls of a section, whose new arenas are made of these pools.
+pub(crate) fn answer_all<
+    P: Kind,
+    N: Answers<P> + Walks<P, PtrAdvancer<P>> + AnswersWith<P, N> + AnswersWith<P, D> + Drop,
+    D: Answers<P> + Walks<P, PtrAdvancer<P>> + AnswersWith<P, D> + Recasts<P> + Drop,
+    L: Lends<N> + Drop,
+    M: Lends<D> + Drop,
+>(
+    heap: Global,
+    numbers: L,
+    pointers: M,
+    calls: Calls<'_>,
+    out: &mut String,
+) -> Result<(), AllocError> {
+    let mut section: Section<'_, P, N, D, L, M> = Section::new(
+        heap,
+        numbers,
+        pointers,
+        calls.least,
+    );
+    section.answer_lines(calls.lines, calls.number, out)
 }

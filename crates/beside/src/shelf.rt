@@ -14,18 +14,22 @@ pub struct Shelf<'t, A> {
     arenas: Vec<Named<'t, A>>,
 }
 
-// The items at two places, which are not the same.
-fn two_of<T>(items: &mut [T], i: usize, j: usize) -> Option<(&mut T, &mut T)> {
-    if i >= items.len() || j >= items.len() {
+// The items at two places, the lower one first.
+fn ordered<T>(items: &mut [T], i: usize, j: usize) -> Option<(&mut T, &mut T)> {
+    if i >= j || j >= items.len() {
         return None;
     }
+    let (low, high) = items.split_at_mut(j);
+    Some((low.get_mut(i)?, high.first_mut()?))
+}
+
+// The items at two places, which are not the same.
+fn two_of<T>(items: &mut [T], i: usize, j: usize) -> Option<(&mut T, &mut T)> {
     if i < j {
-        let (low, high) = items.split_at_mut(j);
-        Some((low.get_mut(i)?, high.first_mut()?))
-    } else {
-        let (low, high) = items.split_at_mut(i);
-        Some((high.first_mut()?, low.get_mut(j)?))
+        return ordered(items, i, j);
     }
+    let (second, first) = ordered(items, j, i)?;
+    Some((first, second))
 }
 
 impl<'t, A: Drop> Shelf<'t, A> {
@@ -37,6 +41,10 @@ impl<'t, A: Drop> Shelf<'t, A> {
 
     fn position(&self, name: &[u8]) -> Option<usize> {
         self.arenas.iter().position(|named| named.name == name)
+    }
+
+    pub(crate) fn has(&self, name: &[u8]) -> bool {
+        self.position(name).is_some()
     }
 
     pub(crate) fn get(&mut self, name: &[u8]) -> Option<&mut A> {
