@@ -4,18 +4,10 @@
 
 #![tactic(auto)]
 
-mod call;
-mod correction;
-mod held;
-mod kind;
-mod one;
-mod parse;
 mod pool;
 mod script;
+mod section;
 mod shelf;
-mod two;
-mod value;
-mod word;
 mod world;
 
 use script::run;

@@ -1,42 +1,116 @@
 // The arenas and advancers of a script, and the calls on them.
 
-use crate::call::{Call, One, Start, Two};
-use crate::kind::{Kind, write_pointer};
 use crate::shelf::Shelf;
-use crate::value::Value;
-use crate::word::Fault;
 use arena::advancer::PtrAdvancer;
-use kinds::DirectSlot;
-use stack::{NonZeroInxGenericStack, SetMaxCapacity};
+use call_answers::answers::{Answers, AnswersWith, Recasts, Walks};
+use call_script::call::{Call, Cited, One, Start, Two};
+use call_script::correction::Correction;
+use call_script::kind::{Kind, write_pointer};
+use call_script::word::Fault;
 use std::alloc::{AllocError, Global};
 
 #[derive(Drop)]
-pub struct World<
-    't,
-    P: Kind + Value<P>,
-    F: NonZeroInxGenericStack<Slot = DirectSlot<P::Gen, u32>>,
-    L: SetMaxCapacity<Slot = DirectSlot<P::Gen, u32>>,
-    H: NonZeroInxGenericStack<Slot = DirectSlot<P::Gen, u32>>,
-    G: NonZeroInxGenericStack<Slot = DirectSlot<P::Gen, P>>,
-    M: SetMaxCapacity<Slot = DirectSlot<P::Gen, P>>,
-    K: NonZeroInxGenericStack<Slot = DirectSlot<P::Gen, P>>,
-> {
+pub struct World<'t, P: Kind, N, D> {
     heap: Global,
-    pub numbers: Shelf<'t, P, u32, F, L, H>,
-    pub pointers: Shelf<'t, P, P, G, M, K>,
+    numbers: Shelf<'t, N>,
+    pointers: Shelf<'t, D>,
     advancers: Vec<(&'t [u8], PtrAdvancer<P>)>,
+}
+
+// The calls on what a shelf has under a name.
+fn answer_on<P: Kind, A: Answers<P> + Drop>(
+    heap: Global,
+    shelf: &mut Shelf<'_, A>,
+    name: &[u8],
+    call: &One<P>,
+    out: &mut String,
+) -> Result<(), Fault> {
+    let arena = shelf.get(name).ok_or(Fault::Malformed)?;
+    arena.answer(heap, call, out)
+}
+
+fn list_on<P: Kind, A: Answers<P> + Drop>(
+    heap: Global,
+    shelf: &mut Shelf<'_, A>,
+    name: &[u8],
+    correction: Correction,
+    cited: &Cited<P>,
+    out: &mut String,
+) -> Result<(), Fault> {
+    let arena = shelf.get(name).ok_or(Fault::Malformed)?;
+    arena.answer_list(heap, correction, cited, out)
+}
+
+fn recast_on<P: Kind, D: Recasts<P> + Drop>(
+    shelf: &mut Shelf<'_, D>,
+    name: &[u8],
+    p: P,
+    out: &mut String,
+) -> Result<(), Fault> {
+    let directory = shelf.get(name).ok_or(Fault::Malformed)?;
+    Ok(directory.recast_one(p, out)?)
+}
+
+fn pair_on<P: Kind, A: AnswersWith<P, A> + Drop>(
+    heap: Global,
+    shelf: &mut Shelf<'_, A>,
+    first: &[u8],
+    second: &[u8],
+    call: Two<P>,
+    out: &mut String,
+) -> Result<(), Fault> {
+    let (a, b) = shelf.pair(first, second).ok_or(Fault::Malformed)?;
+    a.answer_with(heap, b, call, out)
+}
+
+fn across<P: Kind, N: AnswersWith<P, D> + Drop, D: Drop>(
+    heap: Global,
+    numbers: &mut Shelf<'_, N>,
+    pointers: &mut Shelf<'_, D>,
+    first: &[u8],
+    second: &[u8],
+    call: Two<P>,
+    out: &mut String,
+) -> Result<(), Fault> {
+    let a = numbers.get(first).ok_or(Fault::Malformed)?;
+    let b = pointers.get(second).ok_or(Fault::Malformed)?;
+    a.answer_with(heap, b, call, out)
+}
+
+fn begin_on<P: Kind, W, A: Walks<P, W> + Drop>(
+    shelf: &mut Shelf<'_, A>,
+    name: &[u8],
+    start: Start<P>,
+) -> Option<W> {
+    let arena = shelf.get(name)?;
+    Some(arena.begin(start))
+}
+
+fn advance_on<P: Kind, W, A: Walks<P, W> + Drop>(
+    shelf: &mut Shelf<'_, A>,
+    name: &[u8],
+    advancer: &mut W,
+) -> Result<Option<P>, Fault> {
+    let arena = shelf.get(name).ok_or(Fault::Malformed)?;
+    Ok(arena.advance(advancer))
+}
+
+fn write_given<P: Kind>(given: Option<P>, out: &mut String) -> Result<(), AllocError> {
+    match given {
+        Some(p) => {
+            out.push_str("ok ")?;
+            write_pointer(p, out)
+        }
+        None => out.push_str("none"),
+    }
 }
 
 impl<
     't,
-    P: Kind + Value<P>,
-    F: NonZeroInxGenericStack<Slot = DirectSlot<P::Gen, u32>> + Drop,
-    L: SetMaxCapacity<Slot = DirectSlot<P::Gen, u32>> + Drop,
-    H: NonZeroInxGenericStack<Slot = DirectSlot<P::Gen, u32>> + Drop,
-    G: NonZeroInxGenericStack<Slot = DirectSlot<P::Gen, P>> + Drop,
-    M: SetMaxCapacity<Slot = DirectSlot<P::Gen, P>> + Drop,
-    K: NonZeroInxGenericStack<Slot = DirectSlot<P::Gen, P>> + Drop,
-> World<'t, P, F, L, H, G, M, K> {
+    P: Kind,
+    N: Answers<P> + Walks<P, PtrAdvancer<P>> + AnswersWith<P, N> + AnswersWith<P, D> + Drop,
+    D: Answers<P> + Walks<P, PtrAdvancer<P>> + AnswersWith<P, D> + Recasts<P> + Drop,
+> World<'t, P, N, D> {
     /// No arenas yet.
     pub(crate) fn new(heap: Global) -> Self {
         World {
@@ -47,20 +121,44 @@ impl<
         }
     }
 
-    pub(crate) fn remove(&mut self, name: &[u8]) {
+    fn remove(&mut self, name: &[u8]) {
         self.numbers.remove(name);
         self.pointers.remove(name);
     }
 
+    /// A new arena of numbers; whatever had its name is gone.
+    pub(crate) fn put_numbers(&mut self, name: &'t [u8], arena: N) -> Result<(), AllocError> {
+        self.remove(name);
+        self.numbers.put(name, arena)
+    }
+
+    /// The same of a directory.
+    pub(crate) fn put_pointers(&mut self, name: &'t [u8], directory: D) -> Result<(), AllocError> {
+        self.remove(name);
+        self.pointers.put(name, directory)
+    }
+
     fn one(&mut self, name: &[u8], call: &One<P>, out: &mut String) -> Result<(), Fault> {
-        if let Some(held) = self.numbers.get(name) {
-            return held.answer(self.heap, call, out);
+        if self.numbers.has(name) {
+            return answer_on(self.heap, &mut self.numbers, name, call, out);
         }
-        let held = self.pointers.get(name).ok_or(Fault::Malformed)?;
-        if let One::Recast(p) = call {
-            return Ok(held.recast_one(*p, out)?);
+        match call {
+            One::Recast(p) => recast_on(&mut self.pointers, name, *p, out),
+            _ => answer_on(self.heap, &mut self.pointers, name, call, out),
         }
-        held.answer(self.heap, call, out)
+    }
+
+    fn list(
+        &mut self,
+        name: &[u8],
+        correction: Correction,
+        cited: &Cited<P>,
+        out: &mut String,
+    ) -> Result<(), Fault> {
+        if self.numbers.has(name) {
+            return list_on(self.heap, &mut self.numbers, name, correction, cited, out);
+        }
+        list_on(self.heap, &mut self.pointers, name, correction, cited, out)
     }
 
     fn two(
@@ -70,16 +168,14 @@ impl<
         call: Two<P>,
         out: &mut String,
     ) -> Result<(), Fault> {
-        if let Some((a, b)) = self.numbers.pair(first, second) {
-            return a.answer_alike(self.heap, b, call, out);
+        if !self.numbers.has(first) {
+            return pair_on(self.heap, &mut self.pointers, first, second, call, out);
         }
-        if let Some((a, b)) = self.pointers.pair(first, second) {
-            return a.answer_directories(self.heap, b, call, out);
+        if self.numbers.has(second) {
+            return pair_on(self.heap, &mut self.numbers, first, second, call, out);
         }
-        match (self.numbers.get(first), self.pointers.get(second), call) {
-            (Some(a), Some(b), Two::CompressInto(d)) => a.compress_to(self.heap, b, d, out),
-            _ => Err(Fault::Malformed),
-        }
+        let (numbers, pointers) = (&mut self.numbers, &mut self.pointers);
+        across(self.heap, numbers, pointers, first, second, call, out)
     }
 
     // An advancer of that name is replaced.
@@ -90,11 +186,12 @@ impl<
         start: Start<P>,
         out: &mut String,
     ) -> Result<(), Fault> {
-        let advancer = match (self.numbers.get(arena), self.pointers.get(arena)) {
-            (Some(held), _) => held.begin(start),
-            (None, Some(held)) => held.begin(start),
-            (None, None) => return Err(Fault::Malformed),
+        let begun = if self.numbers.has(arena) {
+            begin_on(&mut self.numbers, arena, start)
+        } else {
+            begin_on(&mut self.pointers, arena, start)
         };
+        let advancer = begun.ok_or(Fault::Malformed)?;
         self.advancers.retain(|other| other.0 != name);
         self.advancers
             .push((name, advancer))
@@ -103,30 +200,25 @@ impl<
     }
 
     fn advance(&mut self, name: &[u8], arena: &[u8], out: &mut String) -> Result<(), Fault> {
-        let place = self
-            .advancers
-            .iter()
-            .position(|other| other.0 == name)
-            .ok_or(Fault::Malformed)?;
-        let advancer = &mut self.advancers[place].1;
-        let given = match (self.numbers.get(arena), self.pointers.get(arena)) {
-            (Some(held), _) => held.advance(advancer),
-            (None, Some(held)) => held.advance(advancer),
-            (None, None) => return Err(Fault::Malformed),
+        let place = self.advancers.iter().position(|other| other.0 == name);
+        let advancer = &mut self.advancers[place.ok_or(Fault::Malformed)?].1;
+        let given = if self.numbers.has(arena) {
+            advance_on(&mut self.numbers, arena, advancer)?
+        } else {
+            advance_on(&mut self.pointers, arena, advancer)?
         };
-        match given {
-            Some(p) => {
-                out.push_str("ok ")?;
-                Ok(write_pointer(p, out)?)
-            }
-            None => Ok(out.push_str("none")?),
-        }
+        Ok(write_given(given, out)?)
     }
 
     /// Makes a call, and writes the answer to it.
     pub(crate) fn answer(&mut self, call: Call<'t, P>, out: &mut String) -> Result<(), Fault> {
         match call {
             Call::OnOne { name, call } => self.one(name, &call, out),
+            Call::OnList {
+                name,
+                correction,
+                cited,
+            } => self.list(name, correction, &cited, out),
             Call::OnTwo {
                 first,
                 second,

@@ -1,28 +1,18 @@
 // Calls on two arenas, and the answers to them.
 
-use crate::call::Two;
-use crate::correction::{Correction, Witness};
-use crate::kind::{Kind, write_pointer};
-use crate::one::{refusal, write_report, write_tail};
-use crate::value::Value;
-use crate::word::Fault;
+use crate::list::witness;
+use crate::write::{refusal, write_room, write_tail};
 use arena::DirectArena;
-use directory::compress_into;
+use call_script::call::Two;
+use call_script::correction::Correction;
+use call_script::kind::{Kind, write_pointer};
+use call_script::value::Value;
+use call_script::word::Fault;
+use directory::{DirectoryError, compress_into};
 use kinds::DirectSlot;
 use mapper::Recaster;
-use outcome::{ArenaReallocationError, DirectoryError};
 use stack::NonZeroInxGenericStack;
 use std::alloc::{AllocError, Global};
-
-fn write_verdict(
-    verdict: Result<(), ArenaReallocationError>,
-    out: &mut String,
-) -> Result<(), AllocError> {
-    match verdict {
-        Ok(()) => out.push_str("ok"),
-        Err(error) => write!(out, "{}", refusal(error)),
-    }
-}
 
 fn clone_from<
     P: Kind,
@@ -36,11 +26,8 @@ fn clone_from<
     correction: Correction,
     out: &mut String,
 ) -> Result<(), Fault> {
-    if !V::admits(correction.amount()) {
-        return Err(Fault::Malformed);
-    }
-    let mut witness = Witness::new(heap, correction);
-    write_verdict(arena.clone_from_with(source, &mut witness), out)?;
+    let mut witness = witness::<P, V>(heap, correction)?;
+    write_room(arena.clone_from_with(source, &mut witness), out)?;
     Ok(write_tail(arena, out)?)
 }
 
@@ -57,14 +44,18 @@ fn transfer_from<
     correction: Correction,
     out: &mut String,
 ) -> Result<(), Fault> {
-    if !V::admits(correction.amount()) {
-        return Err(Fault::Malformed);
-    }
-    let mut witness = Witness::new(heap, correction);
+    let mut witness = witness::<P, V>(heap, correction)?;
     let verdict = arena.transfer_reallocating(generation, source, &mut witness);
-    write_verdict(verdict, out)?;
+    write_room(verdict, out)?;
     write_tail(arena, out)?;
     Ok(write_tail(source, out)?)
+}
+
+fn write_directed(answer: Result<(), DirectoryError>, out: &mut String) -> Result<(), AllocError> {
+    match answer {
+        Ok(()) => out.push_str("ok"),
+        Err(DirectoryError::NoRoom(error)) => write!(out, "10 {}", refusal(error)),
+    }
 }
 
 /// The report goes into the directory; a refusal shows the directory's number and what it carries.
@@ -80,16 +71,15 @@ pub(crate) fn compress_to<
     correction: Correction,
     out: &mut String,
 ) -> Result<(), Fault> {
-    if !V::admits(correction.amount()) {
-        return Err(Fault::Malformed);
-    }
-    let mut witness = Witness::new(heap, correction);
-    match compress_into(arena, directory, &mut witness) {
-        Ok(()) => out.push_str("ok")?,
-        Err(DirectoryError::NoRoom(error)) => write!(out, "10 {}", refusal(error))?,
-    }
+    let mut witness = witness::<P, V>(heap, correction)?;
+    write_directed(compress_into(arena, directory, &mut witness), out)?;
     write_tail(arena, out)?;
     Ok(write_tail(directory, out)?)
+}
+
+fn write_behind<P: Kind>(word: &str, p: P, out: &mut String) -> Result<(), AllocError> {
+    out.push_str(word)?;
+    write_pointer(p, out)
 }
 
 /// The new pointer, or 9 and the pointer asked for.
@@ -102,14 +92,8 @@ where
     DirectArena<P, P, D>: Recaster<P>,
 {
     match directory.recast_item(p) {
-        Ok(new) => {
-            out.push_str("ok ")?;
-            write_pointer(new, out)
-        }
-        Err(lost) => {
-            out.push_str("9 ")?;
-            write_pointer(lost.pointer, out)
-        }
+        Ok(new) => write_behind("ok ", new, out),
+        Err(lost) => write_behind("9 ", lost.pointer, out),
     }
 }
 
@@ -124,10 +108,7 @@ fn recast_by<
 ) -> Result<(), AllocError> {
     match arena.recast(directory) {
         Ok(()) => out.push_str("ok")?,
-        Err(lost) => {
-            out.push_str("9 ")?;
-            write_pointer(lost.pointer, out)?;
-        }
+        Err(lost) => write_behind("9 ", lost.pointer, out)?,
     }
     write_tail(arena, out)
 }

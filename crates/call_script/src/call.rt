@@ -1,12 +1,12 @@
 // The calls of a script.
 
 use crate::correction::Correction;
-use crate::held::Request;
 use crate::kind::Kind;
+use crate::request::Request;
 use crate::value::Datum;
 
 /// What an arena holds.
-#[derive(Clone, Copy, Debug, PartialEq, Eq)]
+#[derive(Clone, Copy)]
 pub enum Of {
     Numbers,
     Pointers,
@@ -27,6 +27,11 @@ pub enum Call<'t, P: Kind> {
         name: &'t [u8],
         call: One<P>,
     },
+    OnList {
+        name: &'t [u8],
+        correction: Correction,
+        cited: Cited<P>,
+    },
     OnTwo {
         first: &'t [u8],
         second: &'t [u8],
@@ -46,28 +51,57 @@ pub enum Call<'t, P: Kind> {
 /// A call on one arena.
 #[derive(Drop)]
 pub enum One<P: Kind> {
-    Insert(P, Datum<P>),
+    Ask(Question<P>),
+    Give(Giving<P>, Datum<P>),
+    Take(Taking<P>),
+    ChangeAll(ChangeAll),
+    Compress(Correction),
+    Limit(usize),
+    Recast(P),
+}
+
+/// What leaves the arena as it is.
+#[derive(Drop)]
+pub enum Question<P: Kind> {
     Get(P),
     Contains(P),
-    Edit(P, Datum<P>),
-    Remove(P),
-    Invalidate(P),
     GetInx(P::Inx),
-    EditInx(P::Inx, Datum<P>),
-    RemoveInx(P::Inx),
     First,
     Last,
     Capacity,
-    EditList(Correction, Vec<P::Inx>),
-    EditPointers(Correction, Vec<P>),
+    Dump,
+}
+
+/// What gives a record a value.
+#[derive(Drop)]
+pub enum Giving<P: Kind> {
+    Insert(P),
+    Edit(P),
+    EditInx(P::Inx),
+}
+
+/// What takes a record out, or its pointer from whoever has it.
+#[derive(Drop)]
+pub enum Taking<P: Kind> {
+    Remove(P),
+    RemoveInx(P::Inx),
+    Invalidate(P),
+}
+
+/// What changes the arena as a whole, with no mapper.
+#[derive(Clone, Copy)]
+pub enum ChangeAll {
     Clear,
     Trim(usize),
     Reserve(usize),
-    Limit(usize),
-    Compress(Correction),
-    Recast(P),
     Drain(usize),
-    Dump,
+}
+
+/// The records of a list edit.
+#[derive(Drop)]
+pub enum Cited<P: Kind> {
+    Indices(Vec<P::Inx>),
+    Pointers(Vec<P>),
 }
 
 /// A call on two arenas.

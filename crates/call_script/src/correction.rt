@@ -16,7 +16,7 @@ pub struct Correction {
 
 impl Correction {
     /// `5` adds 5 to each value; `*5` adds 5 to the first, 10 to the second, and so on.
-    pub(crate) fn read(text: &[u8]) -> Option<Correction> {
+    pub fn read(text: &[u8]) -> Option<Correction> {
         match text {
             [b'*', running @ ..] => {
                 let step = number(running)?;
@@ -30,7 +30,7 @@ impl Correction {
     }
 
     /// What the first value gets: 0 exactly if no value is altered.
-    pub(crate) fn amount(self) -> u32
+    pub fn amount(self) -> u32
         ensures { result ≡ self.sum }
     {
         self.sum
@@ -46,7 +46,7 @@ pub struct Witness<P: Kind> {
 }
 
 impl<P: Kind> Witness<P> {
-    pub(crate) fn new(heap: Global, correction: Correction) -> Self {
+    pub fn new(heap: Global, correction: Correction) -> Self {
         Witness {
             correction,
             pairs: Vec::new(heap),
@@ -55,13 +55,13 @@ impl<P: Kind> Witness<P> {
     }
 
     /// The old and the new pointer of each record, in the order shown; none where memory did not suffice for them.
-    pub(crate) fn pairs(&self) -> Option<&[(P, P)]> {
+    pub fn pairs(&self) -> Option<&[(P, P)]> {
         (!self.short_of_memory).then_some(self.pairs.as_slice())
     }
 }
 
 impl<P: Kind, V: Value<P>> Mapper<P, P, V, V> for Witness<P> {
-    ghost use Rattle.beside.specs.declared.correction.Correction.{Correction};
+    ghost use Rattle.call_script.specs.declared.correction.Correction.{Correction};
 
     ghost State = { Correction };
 

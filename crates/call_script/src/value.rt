@@ -2,6 +2,7 @@
 ghost use Rattle.std.specs.Prelude.{◌≡◌, ℕ, min, ◌+◌};
 
 use crate::kind::{Kind, write_pointer};
+use crate::word::Fault;
 use kinds::PtrOf;
 use std::alloc::AllocError;
 
@@ -18,7 +19,7 @@ pub trait Value<P: Kind>: Copy {
     ghost corrected: { Self → ℕ → Self };
 
     /// The value that is given, if it is one of these.
-    fn of(datum: Datum<P>) -> Option<Self>;
+    fn of(datum: Datum<P>) -> Result<Self, Fault>;
 
     fn write(self, out: &mut String) -> Result<(), AllocError>;
 
@@ -32,10 +33,10 @@ pub trait Value<P: Kind>: Copy {
 impl<P: Kind> Value<P> for u32 {
     ghost corrected = { λ v a. min (v + a) 4294967295 };
 
-    fn of(datum: Datum<P>) -> Option<u32> {
+    fn of(datum: Datum<P>) -> Result<u32, Fault> {
         match datum {
-            Datum::Number(n) => Some(n),
-            Datum::Pointer(_) => None,
+            Datum::Number(n) => Ok(n),
+            Datum::Pointer(_) => Err(Fault::Malformed),
         }
     }
 
@@ -58,10 +59,10 @@ where
 {
     ghost corrected = { λ p _. p };
 
-    fn of(datum: Datum<PtrOf<I, G>>) -> Option<PtrOf<I, G>> {
+    fn of(datum: Datum<PtrOf<I, G>>) -> Result<PtrOf<I, G>, Fault> {
         match datum {
-            Datum::Number(_) => None,
-            Datum::Pointer(p) => Some(p),
+            Datum::Number(_) => Err(Fault::Malformed),
+            Datum::Pointer(p) => Ok(p),
         }
     }
 
