@@ -1,14 +1,11 @@
 //! The program that answers call scripts as the Rust crate does, so that the two can be compared line by line.
-//! It uses `call_script`, `call_answers`, the stacks and `text`; nothing uses it, and it knows the kinds by name alone.
+//! It uses `call_sections` and what that uses, the stacks and `text`; nothing uses it, and it knows the kinds by name alone.
 //! Nothing is promised of it but that it ends and never panics: what it writes is compared (docs/BESIDE.md).
 
 #![tactic(auto)]
 
 mod pool;
 mod script;
-mod section;
-mod shelf;
-mod world;
 
 use script::run;
 use std::io;

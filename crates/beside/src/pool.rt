@@ -4,6 +4,7 @@ use arena::DirectArena;
 use call_answers::held::Held;
 use call_script::kind::Kind;
 use call_script::request::Request;
+use call_sections::Lends;
 use heap_stack::HeapStack;
 use kinds::{DirectSlot, Ptr, PtrInx};
 use limited::LimitedStack;
@@ -11,12 +12,6 @@ use slab_stack::SlabStack;
 use stack::FixedStack;
 use std::alloc::Global;
 use std::mem::replace;
-
-/// What new arenas of a type are made of.
-pub trait Lends<A> {
-    /// A new arena, if there is room for it.
-    fn arena(&mut self, heap: Global, request: Request) -> Option<A>;
-}
 
 #[derive(Drop)]
 pub struct Pool<'a, U> {

@@ -1,12 +1,12 @@
 // A script from its first line to its last: one answer line for each.
 
-use crate::pool::{Lends, Pool, slots_of};
-use crate::section::{Calls, answer_all};
+use crate::pool::{Pool, slots_of};
 use arena::DirectArena;
 use call_answers::held::Held;
 use call_script::call::Of;
 use call_script::kind::{Kind, Kinds, Least, Written};
 use call_script::parse::making;
+use call_sections::{Calls, Lends, answer_all};
 use heap_stack::HeapStack;
 use kinds::{DirectSlot, PtrGen, PtrInx, PtrOf};
 use limited::LimitedStack;

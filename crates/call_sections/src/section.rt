@@ -1,6 +1,5 @@
 // The lines of a script after one that names kinds: one answer line for each.
 
-use crate::pool::Lends;
 use crate::world::World;
 use arena::advancer::PtrAdvancer;
 use call_answers::answers::{Answers, AnswersWith, Recasts, Walks};
@@ -10,6 +9,12 @@ use call_script::parse::{making, parse};
 use call_script::request::Request;
 use call_script::word::Fault;
 use std::alloc::{AllocError, Global};
+
+/// What new arenas of a type are made of.
+pub trait Lends<A> {
+    /// A new arena, if there is room for it.
+    fn arena(&mut self, heap: Global, request: Request) -> Option<A>;
+}
 
 /// The lines of a section, of which the first is line `number` of the whole.
 #[derive(Clone, Copy)]
@@ -124,7 +129,7 @@ impl<
 }
 
 /// Answers the calls of a section, whose new arenas are made of these pools.
-pub(crate) fn answer_all<
+pub fn answer_all<
     P: Kind,
     N: Answers<P> + Walks<P, PtrAdvancer<P>> + AnswersWith<P, N> + AnswersWith<P, D> + Drop,
     D: Answers<P> + Walks<P, PtrAdvancer<P>> + AnswersWith<P, D> + Recasts<P> + Drop,
