@@ -1,5 +1,5 @@
 //! What no call script says of arenas: a mapper of one's own, two kinds of pointer in one call, the lender's array, a slab
-//! without a limit, and drains with what lies between their steps. It may use `directory` and every library below it.
+//! without a limit, `find`, and what lies between the steps of a drain. It may use `directory` and every library below it.
 //! Nothing uses it. An example that a script can show stands in crates/beside/examples.
 
 #![tactic(auto)]
@@ -35,12 +35,13 @@ mod tests {
     use arena::advancer::{Advancer, PtrAdvancer};
     use arena::{ArenaReallocationError, DirectArena};
     use bulk::GetDisjointMutError;
+    use directory::find::find;
     use directory::{DirectoryError, compress_into};
     use kinds::{DirectSlot, Ptr, PtrInx, PtrOf};
     use limited::LimitedStack;
     use mapper::{AddCorrection, KeepValues, Mapper};
     use numbering::{SeasonGen, ShortInx, Unmarked};
-    use outcome::InvalidationOption;
+    use outcome::{InvalidationOption, InvalidationResult};
     use sheets::SheetInx;
     use slab_stack::SlabStack;
     use stack::{FixedStack, NonZeroInxGenericStack, ReallocationError, SetMaxCapacity};
@@ -209,17 +210,66 @@ mod tests {
         assert!(rt; lent[1] == Slot::Allocated(SeasonGen { season: 102 }, 2));
     }
 
+    type Edited = Result<(), GetDisjointMutError>;
+
+    const ABSENT: Edited = Err(GetDisjointMutError::IndexOutOfBounds);
+
+    const TWICE: Edited = Err(GetDisjointMutError::OverlappingIndices);
+
+    // What list edits of the records in slots 1 and 4 of four answer.
+    const BY_INDEX: [([u16; 2], Edited); 4] = [
+        ([1, 0], ABSENT),
+        ([9, 9], ABSENT),
+        ([1, 3], ABSENT),
+        ([3, 3], TWICE),
+    ];
+
+    const BY_POINTER: [([(u16, u32); 2], Edited); 3] = [
+        ([(1, 101), (4, 9)], ABSENT),
+        ([(1, 101), (9, 101)], ABSENT),
+        ([(4, 104), (4, 104)], TWICE),
+    ];
+
+    #[test]
+    fn the_lent_slots_come_back(rt: HostRuntime) {
+        let mut lent = [Slot::Free; 4];
+        let below = LimitedStack::new(SlabStack::with_min_capacity(&mut lent, 3));
+        let mut a = DirectArena::<Short, u32, _>::new(below);
+        assert!(rt; a.direct_insert_within_capacity(of(2, 9), 20) == Ok(()));
+        let slots = a.into_stack().into_inner().into_slots();
+        assert!(rt; slots.len() == 4 && slots[0] == Slot::Free);
+        assert!(rt; slots[1] == Slot::Allocated(SeasonGen { season: 9 }, 20));
+    }
+
     #[test]
     fn a_refused_list_edit_shows_its_mapper_nothing(rt: HostRuntime) {
         let mut lent = [Slot::Free; 4];
         let mut a = Register::new(FixedStack::new(&mut lent));
         let mut numbering = Numbering { next: 100 };
         assert!(rt; put(&mut a, 1) && put(&mut a, 4));
-        let list = [of(4, 104), of(1, 101), of(4, 104)];
-        let twice = Err(GetDisjointMutError::OverlappingIndices);
-        assert!(rt; a.get_disjoint_mut(&list, &mut numbering) == twice && numbering.next == 100);
-        assert!(rt; a.get_disjoint_mut(&list[1..], &mut numbering) == Ok(()));
+        for ([i, j], refused) in BY_INDEX {
+            let list = [ShortInx { raw: i }, ShortInx { raw: j }];
+            assert!(rt; a.get_disjoint_inx_mut(&list, &mut numbering) == refused);
+        }
+        for ([p, q], refused) in BY_POINTER {
+            let list = [of(p.0, p.1), of(q.0, q.1)];
+            assert!(rt; a.get_disjoint_mut(&list, &mut numbering) == refused);
+        }
+        assert!(rt; numbering.next == 100 && a.get(of(4, 104)) == Some(4));
+        let list = [of(1, 101), of(4, 104)];
+        assert!(rt; a.get_disjoint_mut(&list, &mut numbering) == Ok(()));
         assert!(rt; numbering.next == 102 && a.get(of(4, 104)) == Some(101));
+    }
+
+    #[test]
+    fn no_call_says_that_a_generation_is_used_up(rt: HostRuntime) {
+        let mut lent = [Slot::Free; 4];
+        let mut a = Register::new(FixedStack::new(&mut lent));
+        assert!(rt; put(&mut a, 1) && put(&mut a, 2) && put(&mut a, 3));
+        assert!(rt; a.remove(of(1, 101)) == InvalidationResult::Success(1));
+        let second = (SeasonGen { season: 102 }, 2);
+        assert!(rt; a.remove_inx(ShortInx { raw: 2 }) == InvalidationResult::Success(second));
+        assert!(rt; a.compress_with(&mut KeepValues).is_success() && a.clear().is_success());
     }
 
     #[test]
@@ -233,6 +283,7 @@ mod tests {
         assert!(rt; trail.old == 3 && trail.new == 3 && a.capacity() == 4);
         assert!(rt; put(&mut source, 6) && copy(&mut a, &source, &mut trail) == NO_SLOT_LENT);
         assert!(rt; trail.old == 3 && a.capacity() == 4 && a.get(of(3, 103)) == Some(3000));
+        assert!(rt; a.slots() == 3 && a.len() == 1);
     }
 
     #[test]
@@ -250,6 +301,12 @@ mod tests {
         assert!(rt; a.get(of(8, 108)) == Some(8) && d.len() == 1);
     }
 
+    const BEYOND: Room = Err(ArenaReallocationError::Stack(ReallocationError::BeyondMaxCapacity));
+
+    fn enter(book: &mut Book, source: &mut Register, trail: &mut Trail) -> Room {
+        book.transfer_reallocating(Unmarked, source, trail)
+    }
+
     #[test]
     fn transferring_between_kinds(rt: HostRuntime) {
         let mut lent = [Slot::Free; 8];
@@ -258,22 +315,64 @@ mod tests {
         let mut book = Book::new(LimitedStack::new(FixedStack::new(&mut lines)));
         let mut trail = Trail { old: 0, new: 0 };
         assert!(rt; put(&mut source, 2) && put(&mut source, 7));
-        assert!(rt; book.transfer_reallocating(Unmarked, &mut source, &mut trail) == Ok(()));
-        assert!(rt; trail.old == 27 && trail.new == 12);
+        assert!(rt; book.direct_insert_within_capacity(on(0, 2), 4) == Ok(()));
+        assert!(rt; enter(&mut book, &mut source, &mut trail) == Ok(()));
+        assert!(rt; trail.old == 27 && trail.new == 12 && book.len() == 2 && book.slots() == 2);
         assert!(rt; value_on(&book, 0, 1) == 2000 && value_on(&book, 0, 2) == 7000);
+        assert!(rt; source.is_empty() && source.slots() == 7);
+        let mut room = [WideSlot::Free; 2];
+        let mut a = WideRegister::new(SlabStack::with_min_capacity(&mut room, 2));
+        let season = SeasonGen { season: 9 };
+        assert!(rt; a.transfer_reallocating(season, &mut book, &mut KeepValues) == Ok(()));
+        assert!(rt; a.len() == 2 && a.get(of(2, 9)) == Some(7000) && book.is_empty());
+    }
+
+    #[test]
+    fn a_refused_transfer_changes_neither_arena(rt: HostRuntime) {
+        let mut lent = [Slot::Free; 8];
+        let mut source = Register::new(FixedStack::new(&mut lent));
+        let mut lines = [Line::Free; 1];
+        let mut book = Book::new(LimitedStack::new(FixedStack::new(&mut lines)));
         let mut room = [WideSlot::Free; 1];
         let mut a = WideRegister::new(SlabStack::with_min_capacity(&mut room, 1));
+        let mut trail = Trail { old: 0, new: 0 };
+        assert!(rt; put(&mut source, 3) && put(&mut source, 8));
+        assert!(rt; book.direct_insert_within_capacity(on(0, 1), 4) == Ok(()));
+        assert!(rt; enter(&mut book, &mut source, &mut trail) == BEYOND);
         let season = SeasonGen { season: 9 };
-        assert!(rt; a.transfer_reallocating(season, &mut book, &mut KeepValues) == NO_SLOT_LENT);
-        assert!(rt; value_on(&book, 0, 2) == 7000);
+        assert!(rt; a.transfer_reallocating(season, &mut source, &mut trail) == NO_SLOT_LENT);
+        assert!(rt; trail.old == 0 && a.slots() == 0 && a.capacity() == 1);
+        assert!(rt; book.len() == 1 && value_on(&book, 0, 1) == 4);
+        assert!(rt; source.len() == 2 && source.get(of(8, 108)) == Some(8));
+    }
+
+    fn seek(a: &Register, d: &Directory, p: Short) -> Option<(Short, u32)> {
+        find(a, d, p)
+    }
+
+    #[test]
+    fn a_record_is_found_through_two_compressions(rt: HostRuntime) {
+        let mut lent = [Slot::Free; 8];
+        let mut a = Register::new(FixedStack::new(&mut lent));
+        let mut first = [ShortSlot::Free; 8];
+        let mut d = Directory::new(SlabStack::with_min_capacity(&mut first, 8));
+        let mut second = [ShortSlot::Free; 8];
+        let mut e = Directory::new(SlabStack::with_min_capacity(&mut second, 8));
+        assert!(rt; put(&mut a, 2) && put(&mut a, 3) && put(&mut a, 6));
+        assert!(rt; report(&mut a, &mut d, 0) == Ok(()) && a.remove(of(1, 102)).is_success());
+        assert!(rt; a.edit(of(2, 103), 31) == Some(31) && report(&mut a, &mut e, 0) == Ok(()));
+        d.join(&e);
+        assert!(rt; seek(&a, &d, of(2, 102)).is_none() && seek(&a, &d, of(3, 104)).is_none());
+        assert!(rt; seek(&a, &d, of(3, 103)) == Some((of(1, 103), 31)));
+        assert!(rt; seek(&a, &d, of(6, 106)) == Some((of(2, 106), 6)));
+        assert!(rt; a.remove(of(1, 103)).is_success() && seek(&a, &d, of(3, 103)).is_none());
     }
 
     #[test]
     fn which_error_stands_behind_a_refusal(rt: HostRuntime) {
         let mut lines = [Line::Free; 8];
         let mut book = Book::new(LimitedStack::new(FixedStack::new(&mut lines)));
-        let beyond = Err(ArenaReallocationError::Stack(ReallocationError::BeyondMaxCapacity));
-        assert!(rt; book.reallocate_min_capacity(8_000) == beyond);
+        assert!(rt; book.reallocate_min_capacity(8_000) == BEYOND);
         let indices = Err(ArenaReallocationError::BeyondIndices);
         assert!(rt; book.reallocate_min_capacity(8_001) == indices);
     }
@@ -302,8 +401,10 @@ mod tests {
         let none = drain.next(&mut a).is_none();
         let (len, slots) = (a.len(), a.slots());
         let behind = put(&mut a, 4);
-        let _ = drain.finish(&mut a);
-        assert!(rt; inserted && none && len == 0 && slots == 3 && behind && a.slots() == 0);
+        let finished = drain.finish(&mut a).is_success();
+        assert!(rt;
+            finished && inserted && none && len == 0 && slots == 3 && behind && a.slots() == 0
+        );
         assert!(rt; third == Some(InvalidationOption::Success((of(3, 103), 3))));
         assert!(rt; put(&mut a, 1) && put(&mut a, 3));
         assert!(rt; take_first(&mut a) == Some(InvalidationOption::Success((of(1, 101), 1))));

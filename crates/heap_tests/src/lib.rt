@@ -171,21 +171,21 @@ mod tests {
         assert!(rt; first_wrong(&mut s, &NEW).is_none());
     }
 
-    // The capacity of a stack made with a request.
-    fn made(heap: Global, request: usize) -> Result<usize, ReallocationError> {
+    // The capacity and the slots of a stack made with a request.
+    fn made(heap: Global, request: usize) -> Result<(usize, usize), ReallocationError> {
         let s = Numbers::with_min_capacity(heap, request)?;
-        Ok(s.capacity() + s.len())
+        Ok((s.capacity(), s.len()))
     }
 
     #[test]
     fn made_with_a_request(rt: HostRuntime) {
         for (request, capacity) in [(0, 0), (1, 4), (4, 4), (5, 5), (300, 300)] {
-            assert!(rt; made(rt.alloc(), request) == Ok(capacity));
+            assert!(rt; made(rt.alloc(), request) == Ok((capacity, 0)));
         }
         assert!(rt; made(rt.alloc(), 4_294_967_296) == Err(ReallocationError::AllocError));
     }
 
-    const UP_AND_DOWN: [Step; 16] = [
+    const UP_AND_DOWN: [Step; 17] = [
         (Call::Ask(1), Said::Done, 0, 4),
         (Call::Ask(4), Said::Done, 0, 4),
         (Call::Ask(5), Said::Done, 0, 8),
@@ -203,6 +203,7 @@ mod tests {
         (Call::Ask(0), Said::Done, 0, 0),
         (Call::Ask(2), Said::Done, 0, 4),
         (Call::PushSome(9), Said::Pushed(4), 4, 4),
+        (Call::CountsUp(4), Said::Done, 4, 4),
     ];
 
     const BEYOND_32_BITS: [Step; 7] = [
@@ -281,7 +282,9 @@ mod tests {
     fn calls_in_turn(rt: HostRuntime) {
         let heap = rt.alloc();
         assert!(rt; first_wrong(&mut Numbers::new(heap), &UP_AND_DOWN).is_none());
-        assert!(rt; first_wrong(&mut Numbers::new(heap), &BEYOND_32_BITS).is_none());
+        let mut grown = Numbers::new(heap);
+        assert!(rt; first_wrong(&mut grown, &BEYOND_32_BITS).is_none());
+        assert!(rt; grown.max_capacity().is_none());
         assert!(rt; first_wrong(&mut Numbers::new(heap), &PUSHED_AND_POPPED).is_none());
         assert!(rt; first_wrong(&mut Numbers::new(heap), &READ_AND_REPLACED).is_none());
         assert!(rt; first_wrong(&mut Numbers::new(heap), &A_THOUSAND).is_none());
