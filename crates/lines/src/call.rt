@@ -1,8 +1,9 @@
 // The calls that a line can ask for.
-ghost use Rattle.std.specs.Prelude.{◌≡◌, Ok};
+ghost use Rattle.std.specs.Prelude.{◌≡◌};
 ghost use Rattle.lines.specs.Call.{asked};
 
 use crate::verb::Verb;
+use text::number::FieldError;
 
 /// A call with the fields that it wants, and no others.
 #[derive(Clone, Copy, Debug, PartialEq, Eq)]
@@ -42,16 +43,16 @@ pub enum Call {
     },
 }
 
-/// None where a wanted field is blank, or any other holds a number.
+/// None where a wanted field is no number, or any other is no blank.
 pub fn call_of(
     verb: Verb,
-    slot: Option<u16>,
-    generation: Option<u32>,
-    value: Option<u32>,
+    slot: Result<Option<u16>, FieldError>,
+    generation: Result<Option<u32>, FieldError>,
+    value: Result<Option<u32>, FieldError>,
 ) -> Option<Call>
-    ensures { result ≡ asked verb (Ok slot) (Ok generation) (Ok value) }
+    ensures { result ≡ asked verb slot generation value }
 {
-    match (verb, slot, generation, value) {
+    match (verb, slot.ok()?, generation.ok()?, value.ok()?) {
         (Verb::Insert, Some(slot), Some(generation), Some(value)) => Some(Call::Insert {
             slot,
             generation,

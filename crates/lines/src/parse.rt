@@ -32,7 +32,7 @@ fn parse_fields(fields: Fields<'_>) -> Result<Call, LineError>
     let slot = read_slot(fields.slot)?;
     let generation = read_field(fields.generation, u32::MAX)?;
     let value = read_field(fields.value, u32::MAX)?;
-    call_of(verb, slot, generation, value).ok_or(LineError::Unfit)
+    call_of(verb, Ok(slot), Ok(generation), Ok(value)).ok_or(LineError::Unfit)
 }
 
 /// A line asks for a call only by the call's one text, and that text always does.
